@@ -1,0 +1,2 @@
+-- Laws of the definitions, each in one place and cited from everywhere.
+pub mod WorkedCases

@@ -1,0 +1,55 @@
+-- Document 01, "Aeration and recirculation". Assumes nothing.
+use Prim.Native.Nat.{ℕ, _+_, _-_, _*_, max}
+use Rattle.rules.specs.Rounding.{down, up}
+use Rattle.rules.specs.AgeNitrate.{correctedAge}
+use Rattle.rules.specs.declared.Plant.{Plant}
+use Rattle.rules.specs.declared.Concentrations.{Concentrations}
+use Rattle.rules.specs.declared.Process.{Process}
+use Rattle.rules.specs.declared.Reactor.{Reactor}
+use Rattle.rules.specs.declared.Aeration.{Aeration}
+
+-- specific oxygen uptake for aeration, g/kg, from U(Ta) (5-24, up)
+unfoldable pub aerationUptake : ℕ → ℕ
+aerationUptake corrected = 560 + up (15000 * corrected) (100000 + 17 * corrected)
+
+-- oxygen for carbon, g/d, from Q, C and the specific uptake (5-24)
+unfoldable pub carbonOxygen : ℕ → ℕ → ℕ → ℕ
+carbonOxygen flow bod uptake = up (flow * bod * uptake) 1_000_000
+
+-- oxygen for nitrification, g/d, from Q and W (5-25)
+unfoldable pub nitrificationOxygen : ℕ → ℕ → ℕ
+nitrificationOxygen flow w = up (43 * flow * w) 10_000
+
+-- oxygen saved by denitrification, g/d, from Q and D (5-26)
+unfoldable pub savedOxygen : ℕ → ℕ → ℕ
+savedOxygen flow d = down (29 * flow * d) 10_000
+
+-- hourly oxygen, g/h, the larger of the carbon and the nitrogen peak (5-27), from carbon less saved, nitrification, fC
+-- and fN. Where the nitrate is covered, saved is at most carbon (law `saved-at-most-carbon` in proofs/).
+unfoldable pub hourlyOxygen : ℕ → ℕ → ℕ → ℕ → ℕ
+hourlyOxygen net nitrification carbonPeak nitrogenPeak =
+    max (up (carbonPeak * net + 100 * nitrification) 2400) (up (100 * net + nitrogenPeak * nitrification) 2400)
+
+-- oxygen transfer, g/h, from Cs and the hourly oxygen (5-28)
+unfoldable pub oxygenTransfer : ℕ → ℕ → ℕ
+oxygenTransfer saturation hourly = up (saturation * hourly) (saturation - 2_000)
+
+-- recirculation, thousandths, pre-anoxic only, from W and N3 (5-19)
+unfoldable pub recirculation : Process → ℕ → ℕ → ℕ
+recirculation Process.PreAnoxic w target = up (1000 * w) target - 1000
+recirculation Process.Simultaneous w target = 0
+recirculation Process.Intermittent w target = 0
+recirculation (Process.StepFeed steps) w target = 0
+
+-- aeration and recirculation of a reactor
+unfoldable pub aerationOf : Plant → Concentrations → Reactor → Aeration
+aerationOf p x reactor =
+    let u = correctedAge (reactor .age) (p .«aeration_temperature») in
+    let net = carbonOxygen (p .flow) (x .bod) (aerationUptake u) - savedOxygen (p .flow) (reactor .denitrified) in
+    let nitrification = nitrificationOxygen (p .flow) (reactor .nitrified) in
+    let hourly = hourlyOxygen net nitrification (p .«carbon_peak») (p .«nitrogen_peak») in
+    record {
+      recirculation = recirculation (p .process) (reactor .nitrified) (p .«nitrate_target»);
+      oxygen = hourly;
+      transfer = oxygenTransfer (p .«oxygen_saturation») hourly
+    }

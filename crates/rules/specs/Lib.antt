@@ -1,0 +1,11 @@
+-- Document 01 as definitions over the whole numbers: a file for each of its sections, in its order.
+pub mod Rounding
+pub mod PlantData
+pub mod LabReadings
+pub mod AgeNitrate
+pub mod SludgeTanks
+pub mod AerationSteps
+pub mod Answers
+pub mod Choosing
+pub mod Listing
+pub mod Cases

@@ -1,0 +1,217 @@
+// The types of document 01: plant data, lab readings, candidates, sheets and answers. The definitions over them are
+// in specs/. No function stands here.
+
+// Step-feed denitrification in two or in three steps.
+pub enum Steps {
+    Two,
+    Three,
+}
+
+// The denitrification process.
+pub enum Process {
+    PreAnoxic,
+    Simultaneous,
+    Intermittent,
+    StepFeed(Steps),
+}
+
+// The precipitant for phosphorus.
+pub enum Precipitant {
+    Iron,
+    Aluminium,
+}
+
+// The direction of flow through the secondary settling tank.
+pub enum TankFlow {
+    Horizontal,
+    Vertical,
+}
+
+// How the settled sludge is removed from the tank's bottom.
+pub enum Removal {
+    Scraper,
+    Suction,
+    Hopper,
+}
+
+// The retention in primary settling: a column of Table 1.
+pub enum PrimarySettling {
+    None,
+    Short,
+    Long,
+}
+
+// Plant data and site, each figure in document 01's unit.
+pub struct Plant {
+    // L, raw BOD5 load, kg/d
+    pub load: u32,
+    // Q, daily flow, m3/d
+    pub flow: u32,
+    // Qw, wet weather flow, m3/h
+    pub wet_weather_flow: u32,
+    // T, design temperature, degrees
+    pub design_temperature: u32,
+    // Ta, aeration temperature, degrees
+    pub aeration_temperature: u32,
+    // I, l/kg
+    pub sludge_volume_index: u32,
+    // N3, mg/m3
+    pub nitrate_target: u32,
+    // P3, mg/m3
+    pub phosphorus_target: u32,
+    // fC, hundredths
+    pub carbon_peak: u32,
+    // fN, hundredths
+    pub nitrogen_peak: u32,
+    // Cs, mg/m3
+    pub oxygen_saturation: u32,
+    // the largest settling surface that the site has room for, m2
+    pub site_surface: u32,
+    // the largest depth that the site allows, mm
+    pub site_depth: u32,
+    pub process: Process,
+    pub precipitant: Precipitant,
+    pub tank: TankFlow,
+    pub removal: Removal,
+    pub primary_settling: PrimarySettling,
+}
+
+// What a lab reading is of.
+pub enum Parameter {
+    Bod,
+    Cod,
+    Solids,
+    Nitrogen,
+    Phosphorus,
+}
+
+// A lab reading: measured in mg/l, below a limit in mg/l, or taken from a head count.
+pub enum Reading {
+    Measured(f32),
+    Below(f32),
+    Heads(u32),
+}
+
+// The five readings, in document 01's order.
+pub struct Readings {
+    pub bod: Reading,
+    pub cod: Reading,
+    pub solids: Reading,
+    pub nitrogen: Reading,
+    pub phosphorus: Reading,
+}
+
+// The accepted results of the readings, mg/m3: C, COD, X, N and P.
+pub struct Concentrations {
+    pub bod: u64,
+    pub cod: u64,
+    pub solids: u64,
+    pub nitrogen: u64,
+    pub phosphorus: u64,
+}
+
+// Document 01's "candidate": a denitrification fraction f in thousandths, a return ratio r in hundredths, and a
+// thickening time h in tenths of an hour.
+pub struct Candidate {
+    pub fraction: u32,
+    pub return_ratio: u32,
+    pub thickening: u32,
+}
+
+// The figures that depend on the fraction alone.
+pub struct Reactor {
+    // t, thousandths of a day
+    pub age: u64,
+    // W, nitrogen to nitrify, mg/m3
+    pub nitrified: u64,
+    // D, nitrate to denitrify, mg/m3
+    pub denitrified: u64,
+    // K, g nitrate nitrogen per kg BOD
+    pub capacity: u64,
+    // S, g/d
+    pub sludge: u64,
+    // M, kg
+    pub mass: u64,
+}
+
+// The figures that depend on the return ratio and the thickening time alone.
+pub struct Settling {
+    // E, g/m3
+    pub solids: u64,
+    // V, diluted sludge volume, l/m3
+    pub sludge_volume: u64,
+    // A, m2
+    pub surface: u64,
+    // H, mm
+    pub depth: u64,
+    // m3
+    pub volume: u64,
+}
+
+// The figures of aeration and recirculation.
+pub struct Aeration {
+    // thousandths of the daily flow
+    pub recirculation: u64,
+    // hourly oxygen, g/h
+    pub oxygen: u64,
+    // oxygen transfer, g/h
+    pub transfer: u64,
+}
+
+// Document 01's "sheet": the fifteen figures of a listing, in its order.
+pub struct Sheet {
+    pub fraction: u64,
+    pub return_ratio: u64,
+    pub thickening: u64,
+    pub age: u64,
+    pub sludge: u64,
+    pub mass: u64,
+    pub solids: u64,
+    pub reactor: u64,
+    pub surface: u64,
+    pub depth: u64,
+    pub settling: u64,
+    pub total: u64,
+    pub recirculation: u64,
+    pub oxygen: u64,
+    pub transfer: u64,
+}
+
+// The refusals, in the order of document 01's table of numbered answers.
+pub enum Refusal {
+    PlantData,
+    NoNumber,
+    ReadingRange,
+    CodRatio,
+    NoDesign,
+    OffGrid,
+    Nitrate,
+    Solids,
+    Surface,
+    Depth,
+    ShortPage,
+}
+
+// What converting one reading gives: its thousandths of mg/l, or a refusal.
+pub enum Converted {
+    Value(u64),
+    Refused(Refusal),
+}
+
+// What plant data and readings get: document 01's "accepted", with the concentrations, or the first refusal due.
+pub enum Acceptance {
+    Accepted(Concentrations),
+    Refused(Refusal),
+}
+
+// What examining and choosing answer: a complete sheet, or one refusal.
+pub enum Answer {
+    Designed(Sheet),
+    Refused(Refusal),
+}
+
+// What writing answers: the number of bytes written, or a refusal.
+pub enum Written {
+    Bytes(usize),
+    Refused(Refusal),
+}
