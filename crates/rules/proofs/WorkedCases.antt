@@ -1,7 +1,7 @@
 -- Case A at its candidate and the table cases (1) to (9), by computation. Assumes nothing.
 use mathlib.Core.Path.{refl}
 use lib.Ieee.{round}
-use Rattle.rules.specs.PlantData.{plantInRange}
+use Rattle.rules.specs.PlantData.{plantFigures, plantInRange}
 use Rattle.rules.specs.LabReadings
 use Rattle.rules.specs.AgeNitrate
 use Rattle.rules.specs.SludgeTanks
@@ -14,6 +14,7 @@ use Rattle.rules.specs.Cases.{Cases}
 pub cases : Cases
 unfolding
   round
+  plantFigures
   plantInRange
   LabReadings.noNumber
   LabReadings.thousandths

@@ -5,6 +5,7 @@ pub mod LabReadings
 pub mod AgeNitrate
 pub mod SludgeTanks
 pub mod AerationSteps
+pub mod Ranges
 pub mod Answers
 pub mod Choosing
 pub mod Listing

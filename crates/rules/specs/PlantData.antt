@@ -1,6 +1,7 @@
 -- Document 01, "Plant data and site": the range of each figure. Assumes nothing.
 use Prim.Native.Nat.{ℕ}
-use mathlib.Core.Bool.{Bool, _&&_}
+use mathlib.Core.Bool.{Bool, true, _&&_}
+use mathlib.Core.List.{List, [], _∷_}
 use lib.Dec.{leb}
 use Rattle.rules.specs.declared.Plant.{Plant}
 
@@ -8,19 +9,38 @@ use Rattle.rules.specs.declared.Plant.{Plant}
 abbrev pub within : ℕ → ℕ → ℕ → Bool
 within least most n = leb least n && leb n most
 
--- every plant and site figure is in its range; the kinds are allowed in all combinations
+-- a figure and its range
+pub record Figure : Type 0 where
+  pub least : ℕ
+  pub most : ℕ
+  pub value : ℕ
+
+abbrev pub figure : ℕ → ℕ → ℕ → Figure
+figure least most value = record { least = least; most = most; value = value }
+
+-- every figure of a table is in its range
+abbrev pub allWithin : List Figure → Bool
+allWithin [] = true
+allWithin (n ∷ rest) = within (n .least) (n .most) (n .value) && allWithin rest
+
+-- the plant and site figures; the kinds are allowed in all combinations
+unfoldable pub plantFigures : Plant → List Figure
+plantFigures p =
+    figure 1 100_000 (p .load)
+    ∷ figure 1 200_000 (p .flow)
+    ∷ figure 1 50_000 (p .«wet_weather_flow»)
+    ∷ figure 10 20 (p .«design_temperature»)
+    ∷ figure 10 20 (p .«aeration_temperature»)
+    ∷ figure 50 200 (p .«sludge_volume_index»)
+    ∷ figure 1_000 50_000 (p .«nitrate_target»)
+    ∷ figure 0 100_000 (p .«phosphorus_target»)
+    ∷ figure 100 300 (p .«carbon_peak»)
+    ∷ figure 100 300 (p .«nitrogen_peak»)
+    ∷ figure 6_000 15_000 (p .«oxygen_saturation»)
+    ∷ figure 1 100_000 (p .«site_surface»)
+    ∷ figure 3_000 10_000 (p .«site_depth»)
+    ∷ []
+
+-- every plant and site figure is in its range
 unfoldable pub plantInRange : Plant → Bool
-plantInRange p =
-    within 1 100_000 (p .load)
-    && within 1 200_000 (p .flow)
-    && within 1 50_000 (p .«wet_weather_flow»)
-    && within 10 20 (p .«design_temperature»)
-    && within 10 20 (p .«aeration_temperature»)
-    && within 50 200 (p .«sludge_volume_index»)
-    && within 1_000 50_000 (p .«nitrate_target»)
-    && within 0 100_000 (p .«phosphorus_target»)
-    && within 100 300 (p .«carbon_peak»)
-    && within 100 300 (p .«nitrogen_peak»)
-    && within 6_000 15_000 (p .«oxygen_saturation»)
-    && within 1 100_000 (p .«site_surface»)
-    && within 3_000 10_000 (p .«site_depth»)
+plantInRange p = allWithin (plantFigures p)
