@@ -2,4 +2,8 @@
 pub mod Quotients
 pub mod Tests
 pub mod RangeFacts
+pub mod AcceptedData
+pub mod Examined
+pub mod NitrateColumns
+pub mod ChosenOnce
 pub mod WorkedCases

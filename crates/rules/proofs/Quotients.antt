@@ -12,16 +12,17 @@ le-down a d k pos = le-div-iff-mul-le pos
 
 -- "up" is at most a whole number exactly when the dividend is at most its multiple
 pub up-le : (a d k : ℕ) → 0 < d → (up a d ≤ k) ↔ (a ≤ k * d)
-up-le a d k pos =
-    (λ h.
-    let l : a + (d - 1) < suc k * d = div-lt-iff-lt-mul pos .0 (suc-le h) in
-    let e : suc k * d ≡ k * d + d = suc-mul k d in
-    omega arith,
-    λ h.
-    let e : suc k * d ≡ k * d + d = suc-mul k d in
-    let l : a + (d - 1) < suc k * d = omega arith in
-    let u : up a d < suc k = div-lt-iff-lt-mul pos .1 l in
-    omega arith)
+up-le a d k pos = (
+  λ h.
+      let l : a + (d - 1) < suc k * d = div-lt-iff-lt-mul pos .0 (suc-le h) in
+      let e : suc k * d ≡ k * d + d = suc-mul k d in
+      omega arith,
+  λ h.
+      let e : suc k * d ≡ k * d + d = suc-mul k d in
+      let l : a + (d - 1) < suc k * d = omega arith in
+      let u : up a d < suc k = div-lt-iff-lt-mul pos .1 l in
+      omega arith,
+)
   where
     suc-le : up a d ≤ k → up a d < suc k
     suc-le h = omega arith

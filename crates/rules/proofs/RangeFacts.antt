@@ -28,19 +28,30 @@ named p b =
       nitrogenPeak = b .1 .1 .1 .1 .1 .1 .1 .1 .1 .0;
       saturation = b .1 .1 .1 .1 .1 .1 .1 .1 .1 .1 .0;
       surface = b .1 .1 .1 .1 .1 .1 .1 .1 .1 .1 .1 .0;
-      depth = b .1 .1 .1 .1 .1 .1 .1 .1 .1 .1 .1 .1 .0
+      depth = b .1 .1 .1 .1 .1 .1 .1 .1 .1 .1 .1 .1 .0;
     }
 
 listed : (p : Plant) → PlantRanges p → AllBetween (plantFigures p)
 unfolding plantFigures
-listed p b =
-    (b .load,
-    (b .flow,
-    (b .wet,
-    (b .design,
-    (b .aeration,
-    (b .index,
-    (b .nitrate, (b .phosphorus, (b .carbonPeak, (b .nitrogenPeak, (b .saturation, (b .surface, (b .depth, tt)))))))))))))
+listed p b = (
+  b .load,
+  (
+    b .flow,
+    (
+      b .wet,
+      (
+        b .design,
+        (
+          b .aeration,
+          (
+            b .index,
+            (b .nitrate, (b .phosphorus, (b .carbonPeak, (b .nitrogenPeak, (b .saturation, (b .surface, (b .depth, tt))))))),
+          ),
+        ),
+      ),
+    ),
+  ),
+)
 
 pub plant-ranges : (p : Plant) → T (plantInRange p) ↔ PlantRanges p
 unfolding plantInRange
@@ -48,21 +59,24 @@ plant-ranges p = (λ t. named p (all-between (plantFigures p) t), λ b. between-
 
 pub grid-ranges : (tank : TankFlow) (y : Candidate) → T (onGrid tank y) ↔ GridRanges tank y
 unfolding onGrid
-grid-ranges tank y =
-    (λ t.
-    record {
-      fraction = within-between 200 500 (y .fraction) .0 (and-l fraction ratio (and-l (fraction && ratio) time t));
-      ratio = within-between 30 (largestReturnRatio tank) (y .«return_ratio») .0 (and-r fraction ratio (and-l (fraction && ratio) time t));
-      time = within-between 20 25 (y .thickening) .0 (and-r (fraction && ratio) time t)
-    },
-    λ g.
-    and-i (fraction && ratio) time
-    (and-i fraction ratio (within-between 200 500 (y .fraction) .1 (g .fraction)) (within-between 30 (largestReturnRatio tank) (y .«return_ratio») .1 (g .ratio)))
-    (within-between 20 25 (y .thickening) .1 (g .time)))
+grid-ranges tank y = (
+  λ t.
+      record {
+        fraction = within-between 200 500 (y .fraction) .0 (and-l fraction ratio (and-l (fraction && ratio) time t));
+        ratio = within-between 30 (largestReturnRatio tank) (y .«return_ratio») .0 (and-r fraction ratio (and-l (fraction && ratio) time t));
+        time = within-between 20 25 (y .thickening) .0 (and-r (fraction && ratio) time t);
+      },
+  λ g.
+      and-i (fraction && ratio) time
+      (and-i fraction ratio (within-between 200 500 (y .fraction) .1 (g .fraction)) (within-between 30 (largestReturnRatio tank) (y .«return_ratio») .1 (g .ratio)))
+      (within-between 20 25 (y .thickening) .1 (g .time)),
+)
   where
     fraction : Bool
     fraction = within 200 500 (y .fraction)
+
     ratio : Bool
     ratio = within 30 (largestReturnRatio tank) (y .«return_ratio»)
+
     time : Bool
     time = within 20 25 (y .thickening)

@@ -51,5 +51,5 @@ aerationOf p x reactor =
     record {
       recirculation = recirculation (p .process) (reactor .nitrified) (p .«nitrate_target»);
       oxygen = hourly;
-      transfer = oxygenTransfer (p .«oxygen_saturation») hourly
+      transfer = oxygenTransfer (p .«oxygen_saturation») hourly;
     }

@@ -7,7 +7,8 @@ use lib.Ieee.{Float, binary32, round}
 use Rattle.rules.specs.LabReadings.{thousandths, accept}
 use Rattle.rules.specs.AgeNitrate.{growth, decay, safetyFactor, aerobicAge, sludgeAge}
 use Rattle.rules.specs.SludgeTanks.{thickeningRoot, reactorOf, settlingOf}
-use Rattle.rules.specs.Answers.{examine, answerNumber, acceptanceNumber}
+use Rattle.rules.specs.Examining.{examine}
+use Rattle.rules.specs.Answers.{answerNumber, acceptanceNumber}
 use Rattle.rules.specs.Listing.{text, listing}
 use Rattle.rules.specs.declared.Plant.{Plant}
 use Rattle.rules.specs.declared.Process.{Process}
@@ -41,7 +42,7 @@ plantWith tank removal =
       precipitant = Precipitant.Iron;
       tank = tank;
       removal = removal;
-      «primary_settling» = PrimarySettling.None
+      «primary_settling» = PrimarySettling.None;
     }
 
 unfoldable pub caseA : Plant
@@ -59,7 +60,7 @@ readingsWith cod =
       cod = Reading.Measured cod;
       solids = Reading.Measured (f32 150 1);
       nitrogen = Reading.Measured (f32 46 1);
-      phosphorus = Reading.Measured (f32 8 1)
+      phosphorus = Reading.Measured (f32 8 1);
     }
 
 unfoldable pub readingsA : Readings
@@ -80,8 +81,8 @@ hopperVolume r = settlingOf (plantWith TankFlow.Vertical Removal.Hopper) r 20 .�
 pub record Cases : Type 0 where
   -- Case A, examined at 300, 75, 20: its whole listing
   pub case-A :
-    listing (examine caseA readingsA (candidate 300 75 20))
-    ≡ text
+      listing (examine caseA readingsA (candidate 300 75 20))
+      ≡ text
       "fraction 300\nreturn 75\nthickening 20\nage 11733\nsludge 1000000\nmass 11733\nsolids 3777\nreactor 3107\nsurface 454\ndepth 4537\nsettling 2060\ntotal 5167\nrecirculation 2600\noxygen 99292\ntransfer 127662\n"
   pub case-1-growth : growth 12 ≡ 1_341_919
   pub case-1-decay-12 : decay 12 ≡ 811_736
@@ -103,6 +104,6 @@ pub record Cases : Type 0 where
   pub case-8-at-91 : hopperVolume 91 ≡ 600
   pub case-8-at-92 : hopperVolume 92 ≡ 604
   pub case-8-refusal :
-    answerNumber (examine (plantWith TankFlow.Vertical Removal.Hopper) readingsA (candidate 300 92 20)) ≡ 8
+      answerNumber (examine (plantWith TankFlow.Vertical Removal.Hopper) readingsA (candidate 300 92 20)) ≡ 8
   pub case-9-passes : acceptanceNumber (accept caseA (readingsWith (f32 440 1))) ≡ 0
   pub case-9-refusal : acceptanceNumber (accept caseA (readingsWith (f32 4_401 10))) ≡ 4

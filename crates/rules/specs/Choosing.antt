@@ -5,7 +5,7 @@ use mathlib.Core.Path.{_≡_}
 use lib.Dec.{T}
 use Rattle.rules.specs.LabReadings.{accept}
 use Rattle.rules.specs.SludgeTanks.{reactorOf, settlingOf}
-use Rattle.rules.specs.Answers.{totalOf, sheetOf, permitted, keepsGrid}
+use Rattle.rules.specs.Examining.{totalOf, sheetOf, permitted, keepsGrid}
 use Rattle.rules.specs.declared.Plant.{Plant}
 use Rattle.rules.specs.declared.Readings.{Readings}
 use Rattle.rules.specs.declared.Concentrations.{Concentrations}
@@ -38,10 +38,10 @@ pub record NotBefore (p : Plant) (x : Concentrations) (d y : Candidate) : Type 0
   pub fraction : candidateTotal p x d ≡ candidateTotal p x y → d .fraction ≤ y .fraction
   pub ratio : candidateTotal p x d ≡ candidateTotal p x y → d .fraction ≡ y .fraction → d .«return_ratio» ≤ y .«return_ratio»
   pub time :
-    candidateTotal p x d ≡ candidateTotal p x y
-    → d .fraction ≡ y .fraction
-    → d .«return_ratio» ≡ y .«return_ratio»
-    → d .thickening ≤ y .thickening
+      candidateTotal p x d ≡ candidateTotal p x y
+      → d .fraction ≡ y .fraction
+      → d .«return_ratio» ≡ y .«return_ratio»
+      → d .thickening ≤ y .thickening
 
 -- A sheet is the least design among a set of candidates: its candidate is in the set and permitted, its figures are
 -- those that the steps define, and no permitted candidate of the set comes before it. Plant and concentrations are the

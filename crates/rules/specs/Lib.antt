@@ -2,10 +2,12 @@
 pub mod Rounding
 pub mod PlantData
 pub mod LabReadings
+pub mod NoneDue
 pub mod AgeNitrate
 pub mod SludgeTanks
 pub mod AerationSteps
 pub mod Ranges
+pub mod Examining
 pub mod Answers
 pub mod Choosing
 pub mod Listing

@@ -61,12 +61,3 @@ writing bytes page = cond (leb (length bytes) (length page)) (Written.Bytes (len
 -- the page afterwards: the listing and then the page's own later bytes, or the page as it was
 unfoldable pub pageAfter : List ℕ → List ℕ → List ℕ
 pageAfter bytes page = cond (leb (length bytes) (length page)) (bytes ++ drop (length bytes) page) page
-
--- the number and the count that writing carries: 0 and the bytes written, or the refusal's number and 0
-unfoldable pub writtenNumber : Written → ℕ
-writtenNumber (Written.Bytes n) = 0
-writtenNumber (Written.Refused r) = refusalNumber r
-
-unfoldable pub writtenCount : Written → ℕ
-writtenCount (Written.Bytes n) = n
-writtenCount (Written.Refused r) = 0

@@ -42,15 +42,15 @@ reactorOf p x fraction =
     let u = correctedAge t (p .«design_temperature») in
     let w = nitrified (x .nitrogen) (x .bod) in
     let s =
-      carbonSludge (p .flow) (x .bod) (x .solids) u
-      + phosphorusSludge (p .flow) (sludgePerPhosphorus (p .precipitant)) (x .phosphorus) (p .«phosphorus_target») (x .bod) in
+    carbonSludge (p .flow) (x .bod) (x .solids) u
+    + phosphorusSludge (p .flow) (sludgePerPhosphorus (p .precipitant)) (x .phosphorus) (p .«phosphorus_target») (x .bod) in
     record {
       age = t;
       nitrified = w;
       denitrified = denitrified w (p .«nitrate_target»);
       capacity = capacity (p .process) fraction (p .«design_temperature») u;
       sludge = s;
-      mass = sludgeMass t s
+      mass = sludgeMass t s;
     }
 
 -- the first whole number from c on whose successor's cube is above n; d bounds the number of steps
