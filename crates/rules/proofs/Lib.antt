@@ -3,7 +3,9 @@ pub mod Quotients
 pub mod Tests
 pub mod RangeFacts
 pub mod AcceptedData
+pub mod CubeRoot
 pub mod Examined
 pub mod NitrateColumns
 pub mod ChosenOnce
+pub mod Numeral
 pub mod WorkedCases

@@ -2,7 +2,7 @@
 use mathlib.Core.Logic.{_↔_}
 use mathlib.Core.Path.{_≡_}
 use Prim.Native.Nat.{ℕ, _+_, _-_, _*_, _/_, _≤_, _<_, suc}
-use native.Mathlib.Nat.{le-div-iff-mul-le, div-lt-iff-lt-mul, suc-mul}
+use native.Mathlib.Nat.{le-refl, le-div-iff-mul-le, div-lt-iff-lt-mul, suc-mul}
 use native.Mathlib.Omega.{arith}
 use Rattle.rules.specs.Rounding.{down, up}
 
@@ -26,3 +26,9 @@ up-le a d k pos = (
   where
     suc-le : up a d ≤ k → up a d < suc k
     suc-le h = omega arith
+
+-- "up" keeps the order of the dividends
+pub up-mono : (a b d : ℕ) → 0 < d → a ≤ b → up a d ≤ up b d
+up-mono a b d pos h =
+    let whole : b ≤ up b d * d = up-le b d (up b d) pos .0 (le-refl (up b d)) in
+    up-le a d (up b d) pos .1 (omega arith)

@@ -1,11 +1,13 @@
 -- The ranges as facts are the definitions' tests, both ways. Assumes nothing.
 use mathlib.Core.Logic.{_↔_}
+use Prim.Native.Nat.{_≤_}
+use native.Mathlib.Omega.{arith}
 use mathlib.Core.Bool.{Bool, _&&_}
 use lib.Dec.{T}
 use lib.Ieee.Fits.{and-i, and-l, and-r}
 use Rattle.rules.specs.PlantData.{within, plantFigures, plantInRange}
 use Rattle.rules.specs.AgeNitrate.{largestReturnRatio, onGrid}
-use Rattle.rules.specs.Ranges.{Between, PlantRanges, GridRanges}
+use Rattle.rules.specs.Ranges.{Between, PlantRanges, GridRanges, OnGrid}
 use Rattle.rules.specs.declared.Plant.{Plant}
 use Rattle.rules.specs.declared.TankFlow.{TankFlow}
 use Rattle.rules.specs.declared.Candidate.{Candidate}
@@ -80,3 +82,15 @@ grid-ranges tank y = (
 
     time : Bool
     time = within 20 25 (y .thickening)
+
+pub ratio-most : (tank : TankFlow) → largestReturnRatio tank ≤ 100
+unfolding largestReturnRatio
+ratio-most TankFlow.Horizontal = omega arith
+ratio-most TankFlow.Vertical = omega arith
+
+-- a candidate of the grid of either flow
+pub on-grid : (tank : TankFlow) (y : Candidate) → T (onGrid tank y) → OnGrid y
+on-grid tank y t =
+    let g = grid-ranges tank y .0 t in
+    let m : largestReturnRatio tank ≤ 100 = ratio-most tank in
+    record { fraction = g .fraction; ratio = record { least = g .ratio .least; most = omega (arith, g .ratio) }; time = g .time }

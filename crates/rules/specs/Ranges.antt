@@ -45,6 +45,12 @@ pub record GridRanges (tank : TankFlow) (y : Candidate) : Type 0 where
   pub ratio : Between 30 (largestReturnRatio tank) (y .«return_ratio»)
   pub time : Between 20 25 (y .thickening)
 
+-- the same with numerals at both ends, for either flow
+pub record OnGrid (y : Candidate) : Type 0 where
+  pub fraction : Between 200 500 (y .fraction)
+  pub ratio : Between 30 100 (y .«return_ratio»)
+  pub time : Between 20 25 (y .thickening)
+
 -- limits of a reactor's figures for accepted data and a fraction of the grid: round numbers that the arithmetic needs
 pub record ReactorBounds (r : Reactor) : Type 0 where
   pub age : r .age ≤ 20_000

@@ -1,0 +1,2 @@
+pub mod Oxygen
+pub mod Refuted

@@ -1,0 +1,50 @@
+-- `recirculated` meets its contract: each process is a case of the definition. Assumes nothing.
+use borrow.Author.Needs.{needs}
+use Rattle.rules.specs.AerationSteps.{recirculation}
+use Rattle.aeration.proofs.recirculated.Statement.{statement}
+use Rattle.aeration.proofs.recirculated.Tie as tie
+
+enum-told : tie.Need-enum-told
+enum-told c = search needs
+
+returned-flow-requires : tie.Need-returned-flow-requires
+returned-flow-requires c κs = search needs
+
+enum-told-2 : tie.Need-enum-told-2
+enum-told-2 c = search needs
+
+enum-told-3 : tie.Need-enum-told-3
+enum-told-3 c = search needs
+
+enum-told-4 : tie.Need-enum-told-4
+enum-told-4 c = search needs
+
+returns : tie.Need-returns
+unfolding recirculation
+returns c = rw (c .before .enum-told .given .1) (c .returned-flow .ensures)
+
+returns-2 : tie.Need-returns-2
+unfolding recirculation
+returns-2 c = rw (c .enum-told2 .given .1)
+
+returns-3 : tie.Need-returns-3
+unfolding recirculation
+returns-3 c = rw (c .enum-told3 .given .1)
+
+returns-4 : tie.Need-returns-4
+unfolding recirculation
+returns-4 c = rw (c .enum-told4 .given .1)
+
+pub recirculated-spec : {M : Type 1} → statement M
+recirculated-spec =
+    tie.close
+    (tie.spec
+    enum-told
+    returned-flow-requires
+    enum-told-2
+    enum-told-3
+    enum-told-4
+    returns
+    returns-2
+    returns-3
+    returns-4)

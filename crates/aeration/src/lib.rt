@@ -1,0 +1,124 @@
+// Aeration and recirculation: the oxygen that a reactor needs, and the flow that a pre-anoxic one returns.
+use rules::Aeration;
+use rules::Concentrations;
+use rules::Plant;
+use rules::Process;
+use rules::Reactor;
+ghost use mathlib.Core.Path.{_≡_};
+ghost use Prim.Native.Nat.{_-_, _*_, _≤_, max};
+ghost use lib.Dec.{T};
+ghost use Rattle.rules.specs.Rounding.{up};
+ghost use Rattle.rules.specs.AgeNitrate.{covered};
+ghost use Rattle.rules.specs.AerationSteps.{aerationUptake, carbonOxygen, nitrificationOxygen, savedOxygen, hourlyOxygen, oxygenTransfer, recirculation, aerationOf};
+ghost use Rattle.rules.specs.Ranges.{Between, PlantRanges, ConcentrationRanges, ReactorBounds};
+
+// Specific oxygen uptake for aeration, g/kg.
+fn aeration_uptake(corrected: u64) -> u64
+    requires { ⌜ corrected ≤ 28_400 ⌝ }
+    ensures { λ r. ⌜ (r ≡ aerationUptake corrected) × Between 560 1_443 r ⌝ }
+{
+    560 + rounding::round_up(15000 * corrected, 100000 + 17 * corrected)
+}
+
+// Oxygen for carbon, g/d.
+fn carbon_oxygen(flow: u64, bod: u64, uptake: u64) -> u64
+    requires { ⌜ (flow ≤ 200_000) × (bod ≤ 2_000_000) × (uptake ≤ 1_443) ⌝ }
+    ensures { λ r. ⌜ (r ≡ carbonOxygen flow bod uptake) × (r ≤ 577_200_000) ⌝ }
+{
+    rounding::round_up(flow * bod * uptake, 1_000_000)
+}
+
+// Oxygen for nitrification, g/d.
+fn nitrification_oxygen(flow: u64, nitrified: u64) -> u64
+    requires { ⌜ (flow ≤ 200_000) × (nitrified ≤ 500_000) ⌝ }
+    ensures { λ r. ⌜ (r ≡ nitrificationOxygen flow nitrified) × (r ≤ 430_000_000) ⌝ }
+{
+    rounding::round_up(43 * flow * nitrified, 10_000)
+}
+
+// Oxygen saved by denitrification, g/d.
+fn saved_oxygen(flow: u64, denitrified: u64) -> u64
+    requires { ⌜ (flow ≤ 200_000) × (denitrified ≤ 500_000) ⌝ }
+    ensures { λ r. ⌜ r ≡ savedOxygen flow denitrified ⌝ }
+{
+    29 * flow * denitrified / 10_000
+}
+
+// The larger of two amounts.
+fn larger(a: u64, b: u64) -> u64
+    ensures { λ r. ⌜ r ≡ max a b ⌝ }
+{
+    if a < b { b } else { a }
+}
+
+// Hourly oxygen, g/h: the larger of the carbon peak and the nitrogen peak.
+fn hourly_oxygen(net: u64, nitrification: u64, carbon_peak: u64, nitrogen_peak: u64) -> u64
+    requires { ⌜ (net ≤ 577_200_000) × (nitrification ≤ 430_000_000) × («carbon_peak» ≤ 300) × («nitrogen_peak» ≤ 300) ⌝ }
+    ensures { λ r. ⌜ (r ≡ hourlyOxygen net nitrification «carbon_peak» «nitrogen_peak») × (r ≤ 126_000_000) ⌝ }
+{
+    larger(
+        rounding::round_up(carbon_peak * net + 100 * nitrification, 2400),
+        rounding::round_up(100 * net + nitrogen_peak * nitrification, 2400),
+    )
+}
+
+// Oxygen transfer, g/h.
+fn oxygen_transfer(saturation: u64, hourly: u64) -> u64
+    requires { ⌜ Between 6_000 15_000 saturation × (hourly ≤ 126_000_000) ⌝ }
+    ensures { λ r. ⌜ r ≡ oxygenTransfer saturation hourly ⌝ }
+{
+    rounding::round_up(saturation * hourly, saturation - 2_000)
+}
+
+// What a pre-anoxic reactor returns beyond its own flow, thousandths.
+fn returned_flow(nitrified: u64, target: u64) -> u64
+    requires { ⌜ (nitrified ≤ 500_000) × Between 1_000 50_000 target ⌝ }
+    ensures { λ r. ⌜ r ≡ up (1000 * nitrified) target - 1000 ⌝ }
+{
+    let whole = rounding::round_up(1000 * nitrified, target);
+    if whole < 1000 { 0 } else { whole - 1000 }
+}
+
+// Recirculation, thousandths: pre-anoxic only.
+fn recirculated(process: Process, nitrified: u64, target: u64) -> u64
+    requires { ⌜ (nitrified ≤ 500_000) × Between 1_000 50_000 target ⌝ }
+    ensures { λ r. ⌜ r ≡ recirculation process nitrified target ⌝ }
+{
+    match process {
+        Process::PreAnoxic => returned_flow(nitrified, target),
+        Process::Simultaneous => 0,
+        Process::Intermittent => 0,
+        Process::StepFeed(_) => 0,
+    }
+}
+
+// Carbon's oxygen less what denitrification saves, g/d. Where the nitrate is covered it is no less than nothing.
+fn net_carbon(flow: u64, bod: u64, uptake: u64, capacity: u64, denitrified: u64) -> u64
+    requires { ⌜ (flow ≤ 200_000) × (bod ≤ 2_000_000) × Between 560 1_443 uptake × (capacity ≤ 193) × (denitrified ≤ 500_000) × T (covered capacity bod denitrified) ⌝ }
+    ensures { λ r. ⌜ (r ≡ carbonOxygen flow bod uptake - savedOxygen flow denitrified) × (r ≤ 577_200_000) ⌝ }
+{
+    carbon_oxygen(flow, bod, uptake) - saved_oxygen(flow, denitrified)
+}
+
+// Recirculation, hourly oxygen and transfer of a reactor whose nitrate is covered.
+pub fn aeration(plant: Plant, concentrations: Concentrations, reactor: Reactor) -> Aeration
+    requires { ⌜ PlantRanges plant × ConcentrationRanges concentrations × ReactorBounds reactor × T (covered (reactor .capacity) (concentrations .bod) (reactor .denitrified)) ⌝ }
+    ensures { λ r. ⌜ r ≡ aerationOf plant concentrations reactor ⌝ }
+{
+    let flow = plant.flow as u64;
+    let temperature = plant.aeration_temperature as u64;
+    let target = plant.nitrate_target as u64;
+    let carbon_peak = plant.carbon_peak as u64;
+    let nitrogen_peak = plant.nitrogen_peak as u64;
+    let saturation = plant.oxygen_saturation as u64;
+    let process = plant.process;
+    let bod = concentrations.bod;
+    let nitrified = reactor.nitrified;
+    let uptake = aeration_uptake(reactor::corrected_age(reactor.age, temperature));
+    let net = net_carbon(flow, bod, uptake, reactor.capacity, reactor.denitrified);
+    let nitrification = nitrification_oxygen(flow, nitrified);
+    let oxygen = hourly_oxygen(net, nitrification, carbon_peak, nitrogen_peak);
+    let transfer = oxygen_transfer(saturation, oxygen);
+    let recirculation = recirculated(process, nitrified, target);
+    Aeration { recirculation, oxygen, transfer }
+}

@@ -1,0 +1,125 @@
+-- `listing::put_number` meets its contract. The invariant says what is left to write: the rest's numeral, which ends at the
+-- place, over the page as it is, gives the number's over the page as it was. Assumes nothing.
+use mathlib.Core.Path.{_≡_, refl, _∙_}
+use mathlib.Core.List.{List}
+use Prim.Native.Nat.{ℕ, _+_, _/_, _%_, _≤_, _<_}
+use native.Mathlib.Omega.{arith}
+use borrow.Author.Needs.{needs}
+use lib.ListN.{length, set, length-set}
+use Rattle.rules.specs.Listing.{numeral}
+use Rattle.listing.specs.Pages.{over}
+use Rattle.rules.proofs.Numeral.{numeral-one, numeral-more, length-one, length-more, numeral-nonempty}
+use Rattle.listing.proofs.Page.{over-one, over-last}
+use Rattle.listing.proofs.put_number.Statement.{statement}
+use Rattle.listing.proofs.put_number.Tie as tie
+
+-- a digit at its place leaves the numeral of the tenth to write
+turn :
+    (p : List ℕ) (at rest place : ℕ) → 9 < rest → place + 1 ≡ at + length (numeral rest) → place < length p
+    → over (set p place (48 + rest % 10)) at (numeral (rest / 10)) ≡ over p at (numeral rest)
+turn p at rest place large e inside =
+    let q : place ≡ at + length (numeral (rest / 10)) = omega (arith, length-more rest large) in
+    rw (q, numeral-more rest large) (over-last p at (numeral (rest / 10)) (48 + rest % 10) (rw q at inside))
+
+-- the first digit
+last-turn :
+    (p : List ℕ) (at rest place : ℕ) → rest ≤ 9 → place + 1 ≡ at + length (numeral rest) → place < length p
+    → set p place (48 + rest) ≡ over p at (numeral rest)
+last-turn p at rest place small e inside =
+    let q : place ≡ at = omega (arith, length-one rest small) in
+    rw (q, numeral-one rest small) (over-one p at (48 + rest) (rw q at inside))
+
+abbrev Inv-digit : tie.InvT-digit
+Inv-digit page₀ at n end rest₀ place₀ page rest place =
+    (place + 1 ≡ at + length (numeral rest))
+    × (place < length page)
+    × (length page ≡ length page₀)
+    × (over page at (numeral rest) ≡ over page₀ at (numeral n))
+
+abbrev μ-digit : tie.MeasureT-digit
+μ-digit page₀ at n end rest₀ place₀ page rest place = rest
+
+digit-count-requires : tie.Need-digit-count-requires Inv-digit μ-digit
+digit-count-requires c κs = search needs
+
+add-end : tie.Need-add-end Inv-digit μ-digit
+add-end c = search needs
+
+sub-place : tie.Need-sub-place Inv-digit μ-digit
+sub-place c = omega (arith, numeral-nonempty (c .before .before .args .n))
+
+digit-holds : tie.Need-digit-holds Inv-digit μ-digit
+digit-holds c =
+    let l : 1 ≤ length (numeral (c .before .before .args .n)) = numeral-nonempty (c .before .before .args .n) in
+    (omega arith, omega arith, refl, refl)
+
+cast-page : tie.Need-cast-page Inv-digit μ-digit
+cast-page c = search needs
+
+add-page : tie.Need-add-page Inv-digit μ-digit
+add-page c = search needs
+
+slice-write-page : tie.Need-slice-write-page Inv-digit μ-digit
+slice-write-page c = search needs
+
+sub-place-2 : tie.Need-sub-place-2 Inv-digit μ-digit
+sub-place-2 c =
+    let d = c .before .digit in
+    omega (arith, length-more (d .rest) (c .digit-test .taken), numeral-nonempty (d .rest / 10))
+
+digit-less : tie.Need-digit-less Inv-digit μ-digit
+digit-less c = omega arith
+
+digit-again : tie.Need-digit-again Inv-digit μ-digit
+digit-again c =
+    let d = c .before .digit in
+    let l : length (numeral (d .rest)) ≡ length (numeral (d .rest / 10)) + 1 = length-more (d .rest) (c .digit-test .taken) in
+    let one : 1 ≤ length (numeral (d .rest / 10)) = numeral-nonempty (d .rest / 10) in (
+      omega arith,
+      simp length-set (omega arith),
+      simp length-set (d .inv .2),
+      turn (d .page) (c .before .before .before .before .args .at) (d .rest) (d .place) (c .digit-test .taken) (d .inv .0) (d .inv .1)
+          ∙ d .inv .3,
+    )
+
+cast-page-2 : tie.Need-cast-page-2 Inv-digit μ-digit
+cast-page-2 c = search needs
+
+add-page-2 : tie.Need-add-page-2 Inv-digit μ-digit
+add-page-2 c = search needs
+
+slice-write-page-2 : tie.Need-slice-write-page-2 Inv-digit μ-digit
+slice-write-page-2 c = search needs
+
+same-length : tie.Need-same-length Inv-digit μ-digit
+same-length c = simp length-set (c .before .digit .inv .2)
+
+returns : tie.Need-returns Inv-digit μ-digit
+returns c =
+    let d = c .before .digit in (
+      omega arith,
+      last-turn (d .page) (c .before .before .before .before .args .at) (d .rest) (d .place) (c .digit-test .left) (d .inv .0) (d .inv .1)
+          ∙ d .inv .3,
+    )
+
+pub put-number-spec : {M : Type 1} → statement M
+put-number-spec =
+    tie.close
+    (tie.spec
+    Inv-digit
+    μ-digit
+    digit-count-requires
+    add-end
+    sub-place
+    digit-holds
+    cast-page
+    add-page
+    slice-write-page
+    sub-place-2
+    digit-less
+    digit-again
+    cast-page-2
+    add-page-2
+    slice-write-page-2
+    same-length
+    returns)

@@ -1,0 +1,3 @@
+-- What the crate's contracts cite beside document 01's own definitions.
+pub mod Pages
+pub mod Forms

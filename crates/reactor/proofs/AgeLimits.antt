@@ -1,0 +1,58 @@
+-- Limits of the growth, the decay and the ages: what each degree does at most, and at the temperatures of a plant the
+-- largest value by computation; the rest is a product's limit and a rounding law. Assumes nothing.
+use Prim.Native.Nat.{ℕ, zero, suc, _-_, _*_, _^_, _≤_}
+use mathlib.Core.Bool.{Bool, true, false, cond}
+use lib.Dec.{leb}
+use native.Mathlib.Nat.{mul-le-mul, mul-le-mul-left, div-le-of-le-mul, pow-succ'}
+use native.Mathlib.Omega.{arith}
+use Rattle.rules.specs.Rounding.{down}
+use Rattle.rules.specs.Ranges.{Between}
+use Rattle.rules.specs.AgeNitrate.{safetyFactor, perDegree, growth, decay, aerobicAge, sludgeAge, correctedAge}
+use Rattle.rules.proofs.Quotients.{up-le}
+use Rattle.reactor.proofs.EachOf.{largest}
+
+-- each degree at most doubles
+pub per-degree-most : (m d n : ℕ) → m ≤ 2 * d → perDegree m d n ≤ 1_000_000 * 2 ^ n
+unfolding perDegree
+per-degree-most m d zero h = omega arith
+per-degree-most m d (suc n) h =
+    let x : ℕ = perDegree m d n in
+    let doubled : down (x * m) d ≤ 2 * x = div-le-of-le-mul d (omega (arith, mul-le-mul-left x h)) in
+    omega (arith, per-degree-most m d n h, pow-succ' 2 n)
+
+pub growth-most : (n : ℕ) → Between 10 20 n → growth n ≤ 1_633_000
+unfolding growth perDegree
+growth-most n b = largest growth 10 10 1_633_000 tt b
+
+pub decay-most : (n : ℕ) → Between 10 20 n → decay n ≤ 1_420_000
+unfolding decay perDegree
+decay-most n b = largest decay 10 10 1_420_000 tt b
+
+pub safety-factor-most : (load : ℕ) → safetyFactor load ≤ 180
+unfolding safetyFactor
+safety-factor-most load = go (leb load 1_200) (leb 6_000 load)
+  where
+    go : (low high : Bool) → cond low 180 (cond high 145 (180 - down (35 * (load - 1_200)) 4_800)) ≤ 180
+    go true high = omega arith
+    go false true = omega arith
+    go false false = omega arith
+
+-- the product that the aerobic age rounds
+pub aerobic-product : (factor g : ℕ) → factor ≤ 180 → g ≤ 1_633_000 → factor * 34 * g ≤ 10_000_000_000
+aerobic-product factor g h k = omega (arith, mul-le-mul h k)
+
+pub aerobic-age-most : (factor n : ℕ) → factor ≤ 180 → Between 10 20 n → aerobicAge factor n ≤ 10_000
+unfolding aerobicAge
+aerobic-age-most factor n h b = omega (arith, aerobic-product factor (growth n) h (growth-most n b))
+
+pub sludge-age-most : (aerobic fraction : ℕ) → aerobic ≤ 10_000 → fraction ≤ 500 → sludgeAge aerobic fraction ≤ 20_000
+unfolding sludgeAge
+sludge-age-most aerobic fraction h k = up-le (1000 * aerobic) (1000 - fraction) 20_000 (omega arith) .1 (omega arith)
+
+-- the product that the corrected age rounds
+pub corrected-product : (age f : ℕ) → age ≤ 20_000 → f ≤ 1_420_000 → age * f ≤ 28_400_000_000
+corrected-product age f h k = omega (arith, mul-le-mul h k)
+
+pub corrected-age-most : (age n : ℕ) → age ≤ 20_000 → Between 10 20 n → correctedAge age n ≤ 28_400
+unfolding correctedAge
+corrected-age-most age n h b = omega (arith, corrected-product age (decay n) h (decay-most n b))

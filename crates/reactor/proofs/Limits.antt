@@ -1,0 +1,13 @@
+-- What the limits of all figures share: a result that is a definition's value has the definition's limit, and the decay
+-- and uptake quotients level off as the age grows. Assumes nothing.
+use Prim.Native.Nat.{ℕ, _+_, _*_, _≤_}
+use mathlib.Core.Path.{_≡_}
+use native.Mathlib.Nat.{mul-le-mul-right, div-le-of-le-mul}
+use native.Mathlib.Omega.{arith}
+use Rattle.rules.specs.Rounding.{down}
+
+pub limited : {r value most : ℕ} → r ≡ value → value ≤ most → (r ≡ value) × (r ≤ most)
+limited e h = (e, omega arith)
+
+pub levels-off : (m most u : ℕ) → m ≤ 17 * most → down (m * u) (100000 + 17 * u) ≤ most
+levels-off m most u h = div-le-of-le-mul (100000 + 17 * u) (omega (arith, mul-le-mul-right u h))

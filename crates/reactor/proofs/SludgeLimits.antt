@@ -1,0 +1,51 @@
+-- Limits of the sludge and its mass, each from the limit of the product that it rounds. Assumes nothing.
+use Prim.Native.Nat.{ℕ, _+_, _-_, _*_, _≤_}
+use native.Mathlib.Nat.{mul-le-mul, sub-le}
+use native.Mathlib.Omega.{arith}
+use Rattle.rules.specs.SludgeTanks.{biomassDecay, carbonSludge, sludgePerPhosphorus, phosphorusSludge, sludgeMass}
+use Rattle.rules.specs.declared.Precipitant.{Precipitant}
+use Rattle.rules.specs.Rounding.{down}
+use Rattle.reactor.proofs.Limits.{levels-off}
+
+pub biomass-decay-most : (u : ℕ) → biomassDecay u ≤ 600
+unfolding biomassDecay
+biomass-decay-most u = levels-off 10200 600 u (omega arith)
+
+-- the sum in the carbon sludge, for each m3/d, and the product that is rounded
+pub carbon-sum : (e bod solids : ℕ) → bod ≤ 2_000_000 → solids ≤ 2_000_000 → (750 - e) * bod + 600 * solids ≤ 2_700_000_000
+carbon-sum e bod solids hb hs = omega (arith, mul-le-mul (sub-le 750 e) hb)
+
+pub carbon-product :
+    (flow e bod solids : ℕ) → flow ≤ 200_000 → bod ≤ 2_000_000 → solids ≤ 2_000_000 →
+    flow * ((750 - e) * bod + 600 * solids) ≤ 540_000_000_000_000
+carbon-product flow e bod solids hf hb hs = mul-le-mul hf (carbon-sum e bod solids hb hs)
+
+pub carbon-sludge-most :
+    (flow bod solids u : ℕ) → flow ≤ 200_000 → bod ≤ 2_000_000 → solids ≤ 2_000_000 →
+    carbonSludge flow bod solids u ≤ 540_000_000
+unfolding carbonSludge
+carbon-sludge-most flow bod solids u hf hb hs = omega (arith, carbon-product flow (biomassDecay u) bod solids hf hb hs)
+
+pub sludge-per-phosphorus-most : (precipitant : Precipitant) → sludgePerPhosphorus precipitant ≤ 68
+unfolding sludgePerPhosphorus
+sludge-per-phosphorus-most Precipitant.Iron = omega arith
+sludge-per-phosphorus-most Precipitant.Aluminium = omega arith
+
+-- the product that the phosphorus sludge rounds
+pub phosphorus-product : (flow k x : ℕ) → flow ≤ 200_000 → k ≤ 68 → x ≤ 100_000 → flow * k * x ≤ 1_360_000_000_000
+phosphorus-product flow k x hf hk hx = mul-le-mul (mul-le-mul hf hk) hx
+
+pub phosphorus-sludge-most :
+    (flow k phosphorus target bod : ℕ) → flow ≤ 200_000 → k ≤ 68 → phosphorus ≤ 100_000 →
+    phosphorusSludge flow k phosphorus target bod ≤ 136_000_000
+unfolding phosphorusSludge
+phosphorus-sludge-most flow k phosphorus target bod hf hk hp =
+    omega (arith, phosphorus-product flow k (phosphorus - target - down bod 100) hf hk (omega arith))
+
+-- the product that the mass rounds
+pub mass-product : (age sludge : ℕ) → age ≤ 20_000 → sludge ≤ 700_000_000 → age * sludge ≤ 14_000_000_000_000
+mass-product age sludge ha hs = mul-le-mul ha hs
+
+pub sludge-mass-most : (age sludge : ℕ) → age ≤ 20_000 → sludge ≤ 700_000_000 → sludgeMass age sludge ≤ 14_000_000
+unfolding sludgeMass
+sludge-mass-most age sludge ha hs = omega (arith, mass-product age sludge ha hs)

@@ -1,0 +1,32 @@
+-- `age::aerobic_age` meets its contract: the product has a limit, so that it fits and so does the quotient. Assumes nothing.
+use Prim.Native.Nat.{_*_, _≤_}
+use borrow.Author.Needs.{needs}
+use native.Mathlib.Omega.{arith}
+use Rattle.rules.specs.AgeNitrate.{aerobicAge}
+use Rattle.reactor.proofs.AgeLimits.{aerobic-product}
+use Rattle.reactor.proofs.age.aerobic_age.Statement.{statement}
+use Rattle.reactor.proofs.age.aerobic_age.Tie as tie
+
+mul-round-up : tie.Need-mul-round-up
+mul-round-up c = search needs
+
+growth-requires : tie.Need-growth-requires
+growth-requires c κs = search needs
+
+product : (c : tie.After-growth) → c .before .args .factor * 34 * c .growth .result ≤ 10_000_000_000
+product c = aerobic-product (c .before .args .factor) (c .growth .result) (search needs) (search needs)
+
+mul-round-up-2 : tie.Need-mul-round-up-2
+mul-round-up-2 c = omega (arith, product c)
+
+round-up-requires : tie.Need-round-up-requires
+round-up-requires c κs = omega (arith, product c)
+
+returns : tie.Need-returns
+unfolding aerobicAge
+returns c =
+    (rw (← c .before .growth .ensures .0) (c .round-up .ensures), omega (arith, product (c .before), c .round-up .ensures))
+
+pub aerobic-age-spec : {M : Type 1} → statement M
+aerobic-age-spec =
+    tie.close (tie.spec mul-round-up growth-requires mul-round-up-2 round-up-requires returns)

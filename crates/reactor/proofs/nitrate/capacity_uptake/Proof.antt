@@ -1,0 +1,33 @@
+-- `nitrate::capacity_uptake` meets its contract: the quotient levels off. Assumes nothing.
+use borrow.Author.Needs.{needs}
+use native.Mathlib.Omega.{arith}
+use mathlib.Core.Path.{refl}
+use Rattle.rules.specs.AgeNitrate.{capacityUptake}
+use Rattle.reactor.proofs.NitrateLimits.{capacity-uptake-most}
+use Rattle.reactor.proofs.Limits.{limited}
+use Rattle.reactor.proofs.nitrate.capacity_uptake.Statement.{statement}
+use Rattle.reactor.proofs.nitrate.capacity_uptake.Tie as tie
+
+mul-result : tie.Need-mul-result
+mul-result c = search needs
+
+mul-result-2 : tie.Need-mul-result-2
+mul-result-2 c = search needs
+
+add-result : tie.Need-add-result
+add-result c = search needs
+
+div-result : tie.Need-div-result
+div-result c = search needs
+
+add-result-2 : tie.Need-add-result-2
+unfolding capacityUptake
+add-result-2 c = omega (arith, capacity-uptake-most (c .args .corrected))
+
+returns : tie.Need-returns
+unfolding capacityUptake
+returns c = limited refl (capacity-uptake-most (c .args .corrected))
+
+pub capacity-uptake-spec : {M : Type 1} → statement M
+capacity-uptake-spec =
+    tie.close (tie.spec mul-result mul-result-2 add-result div-result add-result-2 returns)

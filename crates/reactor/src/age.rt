@@ -1,0 +1,76 @@
+// The sludge age, from the load, the temperature and the denitrification fraction.
+ghost use mathlib.Core.Path.{_≡_};
+ghost use Prim.Native.Nat.{_*_, _≤_};
+ghost use Rattle.rules.specs.AgeNitrate.{safetyFactor, perDegree, growth, decay, aerobicAge, sludgeAge, correctedAge};
+ghost use Rattle.rules.specs.Ranges.{Between};
+
+// 1,000,000 multiplied by multiplier / divisor once for each degree, down at each.
+fn per_degree(multiplier: u64, divisor: u64, degrees: u64) -> u64
+    requires { ⌜ (multiplier ≤ 2_000) × (1_000 ≤ divisor) × (degrees ≤ 15) ⌝ }
+    ensures { λ r. ⌜ r ≡ perDegree multiplier divisor degrees ⌝ }
+{
+    if degrees == 0 {
+        return 1_000_000;
+    }
+    per_degree(multiplier, divisor, degrees - 1) * multiplier / divisor
+}
+
+// G, growth: 1103 / 1000 for each degree below 15, the reverse for each above.
+pub(crate) fn growth(temperature: u64) -> u64
+    requires { ⌜ Between 10 20 temperature ⌝ }
+    ensures { λ r. ⌜ (r ≡ growth temperature) × (r ≤ 1_633_000) ⌝ }
+{
+    if temperature <= 15 {
+        per_degree(1103, 1000, 15 - temperature)
+    } else {
+        per_degree(1000, 1103, temperature - 15)
+    }
+}
+
+// F, decay: 1072 / 1000 for each degree above 15, the reverse for each below.
+pub fn decay(temperature: u64) -> u64
+    requires { ⌜ Between 10 20 temperature ⌝ }
+    ensures { λ r. ⌜ (r ≡ decay temperature) × (r ≤ 1_420_000) ⌝ }
+{
+    if temperature <= 15 {
+        per_degree(1000, 1072, 15 - temperature)
+    } else {
+        per_degree(1072, 1000, temperature - 15)
+    }
+}
+
+// SF, safety factor, hundredths.
+pub(crate) fn safety_factor(load: u64) -> u64
+    requires { ⌜ load ≤ 100_000 ⌝ }
+    ensures { λ r. ⌜ (r ≡ safetyFactor load) × (r ≤ 180) ⌝ }
+{
+    match load {
+        0..=1_200 => 180,
+        6_000.. => 145,
+        _ => 180 - 35 * (load - 1_200) / 4_800,
+    }
+}
+
+// a, aerobic sludge age, thousandths of a day.
+pub(crate) fn aerobic_age(factor: u64, temperature: u64) -> u64
+    requires { ⌜ (factor ≤ 180) × Between 10 20 temperature ⌝ }
+    ensures { λ r. ⌜ (r ≡ aerobicAge factor temperature) × (r ≤ 10_000) ⌝ }
+{
+    rounding::round_up(factor * 34 * growth(temperature), 1_000_000)
+}
+
+// t, sludge age, thousandths of a day.
+pub(crate) fn sludge_age(aerobic: u64, fraction: u64) -> u64
+    requires { ⌜ (aerobic ≤ 10_000) × (fraction ≤ 500) ⌝ }
+    ensures { λ r. ⌜ (r ≡ sludgeAge aerobic fraction) × (r ≤ 20_000) ⌝ }
+{
+    rounding::round_up(1000 * aerobic, 1000 - fraction)
+}
+
+// U, sludge age corrected for temperature, thousandths of a day.
+pub fn corrected_age(age: u64, temperature: u64) -> u64
+    requires { ⌜ (age ≤ 20_000) × Between 10 20 temperature ⌝ }
+    ensures { λ r. ⌜ (r ≡ correctedAge age temperature) × (r ≤ 28_400) ⌝ }
+{
+    age * decay(temperature) / 1_000_000
+}

@@ -1,0 +1,54 @@
+// The sludge that carbon and phosphorus make, and the mass of it that the tank holds.
+use crate::nitrate::saturating_sub;
+use rules::Precipitant;
+ghost use mathlib.Core.Path.{_≡_};
+ghost use Prim.Native.Nat.{_≤_};
+ghost use Rattle.rules.specs.SludgeTanks.{biomassDecay, carbonSludge, sludgePerPhosphorus, phosphorusSludge, sludgeMass};
+
+// e, decay of biomass per kg BOD.
+fn biomass_decay(corrected: u64) -> u64
+    requires { ⌜ corrected ≤ 28_400 ⌝ }
+    ensures { λ r. ⌜ (r ≡ biomassDecay corrected) × (r ≤ 600) ⌝ }
+{
+    10200 * corrected / (100000 + 17 * corrected)
+}
+
+// Carbon sludge, g/d.
+pub(crate) fn carbon_sludge(flow: u64, bod: u64, solids: u64, corrected: u64) -> u64
+    requires { ⌜ (flow ≤ 200_000) × (bod ≤ 2_000_000) × (solids ≤ 2_000_000) × (corrected ≤ 28_400) ⌝ }
+    ensures { λ r. ⌜ (r ≡ carbonSludge flow bod solids corrected) × (r ≤ 540_000_000) ⌝ }
+{
+    rounding::round_up(
+        flow * ((750 - biomass_decay(corrected)) * bod + 600 * solids),
+        1_000_000,
+    )
+}
+
+// k, sludge per phosphorus, tenths.
+pub(crate) fn sludge_per_phosphorus(precipitant: Precipitant) -> u64
+    ensures { λ r. ⌜ (r ≡ sludgePerPhosphorus precipitant) × (r ≤ 68) ⌝ }
+{
+    match precipitant {
+        Precipitant::Iron => 68,
+        Precipitant::Aluminium => 53,
+    }
+}
+
+// Phosphorus sludge, g/d.
+pub(crate) fn phosphorus_sludge(flow: u64, k: u64, phosphorus: u64, target: u64, bod: u64) -> u64
+    requires { ⌜ (flow ≤ 200_000) × (k ≤ 68) × (phosphorus ≤ 100_000) ⌝ }
+    ensures { λ r. ⌜ (r ≡ phosphorusSludge flow k phosphorus target bod) × (r ≤ 136_000_000) ⌝ }
+{
+    rounding::round_up(
+        flow * k * saturating_sub(saturating_sub(phosphorus, target), bod / 100),
+        10_000,
+    )
+}
+
+// M, mass of sludge, kg.
+pub(crate) fn sludge_mass(age: u64, sludge: u64) -> u64
+    requires { ⌜ (age ≤ 20_000) × (sludge ≤ 700_000_000) ⌝ }
+    ensures { λ r. ⌜ (r ≡ sludgeMass age sludge) × (r ≤ 14_000_000) ⌝ }
+{
+    rounding::round_up(age * sludge, 1_000_000)
+}

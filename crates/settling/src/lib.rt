@@ -1,0 +1,204 @@
+// The secondary settling tank and the volumes: what depends on the return ratio and the thickening time alone.
+ghost use mathlib.Core.Path.{_≡_};
+ghost use Prim.Native.Nat.{_*_, _≤_, _<_};
+ghost use Rattle.rules.specs.Ranges.{Between, PlantRanges, SettlingBounds};
+ghost use Rattle.rules.specs.SludgeTanks.{cubeRoot, thickeningRoot, bottomSludge, returnShare, returnSludge, mixedSolids, dilutedVolume, solidsKept, volumeLoading, largestOverflowRate, surfaceOverflowRate, settlingSurface, settlingDepth, settlingVolume, settlingOf, reactorSolids, reactorVolume};
+ghost use Rattle.settling.specs.DepthRanges.{DepthRanges};
+use rules::Plant;
+use rules::Process;
+use rules::Removal;
+use rules::Settling;
+use rules::Steps;
+use rules::TankFlow;
+
+// The largest whole number whose cube is at most n, for a root below 16,384.
+fn cube_root(n: u64) -> u64
+    requires { ⌜ n < 16_384 * 16_384 * 16_384 ⌝ }
+    ensures { λ r. ⌜ r ≡ cubeRoot n ⌝ }
+{
+    let mut c = 0;
+    'search: loop {
+        let next = c + 1;
+        if n < next * next * next {
+            break c;
+        }
+        c = next;
+    }
+}
+
+// c, the root that the bottom sludge rests on
+fn thickening_root(thickening: u64) -> u64
+    requires { ⌜ Between 20 25 thickening ⌝ }
+    ensures { λ r. ⌜ (r ≡ thickeningRoot thickening) × Between 1_259 1_357 r ⌝ }
+{
+    cube_root(thickening * 100_000_000)
+}
+
+// B, bottom sludge, g/m3: one figure for each thickening time, whatever the return ratio.
+pub fn bottom_sludge(index: u32, thickening: u32) -> u64
+    requires { ⌜ Between 50 200 index × Between 20 25 thickening ⌝ }
+    ensures { λ r. ⌜ (r ≡ bottomSludge (thickeningRoot thickening) index) × Between 6_200 28_000 r ⌝ }
+{
+    1000 * thickening_root(thickening as u64) / index as u64
+}
+
+// w, the return sludge's share of the bottom sludge, tenths
+fn return_share(removal: Removal) -> u64
+    ensures { λ r. ⌜ (r ≡ returnShare removal) × Between 5 10 r ⌝ }
+{
+    match removal {
+        Removal::Scraper => 7,
+        Removal::Suction => 5,
+        Removal::Hopper => 10,
+    }
+}
+
+// R, return sludge, g/m3
+fn return_sludge(removal: Removal, bottom: u64) -> u64
+    requires { ⌜ Between 6_200 28_000 bottom ⌝ }
+    ensures { λ r. ⌜ (r ≡ returnSludge (returnShare removal) bottom) × Between 3_100 28_000 r × (r ≤ bottom) ⌝ }
+{
+    return_share(removal) * bottom / 10
+}
+
+// E, solids in the aeration tank, g/m3: at most half the return sludge's.
+fn mixed_solids(returned: u64, ratio: u64) -> u64
+    requires { ⌜ Between 3_100 28_000 returned × Between 30 100 ratio ⌝ }
+    ensures { λ r. ⌜ (r ≡ mixedSolids returned ratio) × Between 700 14_000 r × (2 * r ≤ returned) ⌝ }
+{
+    ratio * returned / (100 + ratio)
+}
+
+// V, diluted sludge volume, l/m3
+fn diluted_volume(solids: u64, index: u64) -> u64
+    requires { ⌜ Between 700 14_000 solids × Between 50 200 index × (solids * index ≤ 678_500) ⌝ }
+    ensures { λ r. ⌜ (r ≡ dilutedVolume solids index) × Between 1 679 r ⌝ }
+{
+    rounding::round_up(solids * index, 1000)
+}
+
+// Needed of a candidate: E of at least 1,000 and V of at most 600.
+pub fn solids_kept(solids: u64, volume: u64) -> bool
+    ensures { λ r. ⌜ r ≡ solidsKept solids volume ⌝ }
+{
+    1_000 <= solids && volume <= 600
+}
+
+// s, sludge volume surface loading rate, l/(m2 h)
+fn volume_loading(tank: TankFlow) -> u64
+    ensures { λ r. ⌜ (r ≡ volumeLoading tank) × Between 500 650 r ⌝ }
+{
+    match tank {
+        TankFlow::Horizontal => 500,
+        TankFlow::Vertical => 650,
+    }
+}
+
+// m, largest surface overflow rate, mm/h
+fn largest_overflow_rate(tank: TankFlow) -> u64
+    ensures { λ r. ⌜ (r ≡ largestOverflowRate tank) × Between 1_600 2_000 r ⌝ }
+{
+    match tank {
+        TankFlow::Horizontal => 1_600,
+        TankFlow::Vertical => 2_000,
+    }
+}
+
+// q, surface overflow rate, mm/h
+fn surface_overflow_rate(tank: TankFlow, volume: u64) -> u64
+    requires { ⌜ Between 1 679 volume ⌝ }
+    ensures { λ r. ⌜ (r ≡ surfaceOverflowRate tank volume) × Between 720 2_000 r ⌝ }
+{
+    let rate = 1000 * volume_loading(tank) / volume;
+    let largest = largest_overflow_rate(tank);
+    if rate < largest { rate } else { largest }
+}
+
+// A, settling surface, m2
+fn settling_surface(wet: u64, rate: u64) -> u64
+    requires { ⌜ Between 1 50_000 wet × Between 720 2_000 rate ⌝ }
+    ensures { λ r. ⌜ (r ≡ settlingSurface wet rate) × Between 1 70_000 r ⌝ }
+{
+    rounding::round_up(1000 * wet, rate)
+}
+
+// H, settling depth, mm: 500 of clear water, then separation, storage and thickening; at least 3,000. The storage
+// takes q · V as it is, also where q was held at m.
+fn settling_depth(
+    rate: u64,
+    ratio: u64,
+    volume: u64,
+    solids: u64,
+    thickening: u64,
+    bottom: u64,
+) -> u64
+    requires { ⌜ DepthRanges rate ratio volume solids thickening bottom ⌝ }
+    ensures { λ r. ⌜ (r ≡ settlingDepth rate ratio volume solids thickening bottom) × Between 3_000 20_000 r ⌝ }
+{
+    let separation = rounding::round_up(5 * rate * (100 + ratio), 1000 - volume);
+    let loading = rounding::round_up(rate * volume, 1000);
+    let storage = rounding::round_up(9 * loading * (100 + ratio), 1000);
+    let thickened = rounding::round_up(solids * rate * (100 + ratio) * thickening, 1000 * bottom);
+    let depth = 500 + separation + storage + thickened;
+    if depth < 3_000 { 3_000 } else { depth }
+}
+
+// Settling volume, m3
+fn settling_volume(surface: u64, depth: u64) -> u64
+    requires { ⌜ Between 1 70_000 surface × Between 3_000 20_000 depth ⌝ }
+    ensures { λ r. ⌜ (r ≡ settlingVolume surface depth) × Between 1 1_400_000 r ⌝ }
+{
+    rounding::round_up(surface * depth, 1000)
+}
+
+// The settling tank's figures, from the bottom sludge of its thickening time.
+pub fn settling(plant: Plant, return_ratio: u32, thickening: u32, bottom: u64) -> Settling
+    requires { ⌜ PlantRanges plant × Between 30 100 «return_ratio» × Between 20 25 thickening ⌝ }
+    requires { ⌜ bottom ≡ bottomSludge (thickeningRoot thickening) (plant .«sludge_volume_index») ⌝ }
+    ensures { λ r. ⌜ (r ≡ settlingOf plant «return_ratio» thickening) × SettlingBounds r ⌝ }
+{
+    let index = plant.sludge_volume_index as u64;
+    let wet = plant.wet_weather_flow as u64;
+    let removal = plant.removal;
+    let tank = plant.tank;
+    let ratio = return_ratio as u64;
+    let time = thickening as u64;
+    let returned = return_sludge(removal, bottom);
+    let solids = mixed_solids(returned, ratio);
+    let sludge_volume = diluted_volume(solids, index);
+    let rate = surface_overflow_rate(tank, sludge_volume);
+    let surface = settling_surface(wet, rate);
+    let depth = settling_depth(rate, ratio, sludge_volume, solids, time, bottom);
+    let volume = settling_volume(surface, depth);
+    Settling {
+        solids,
+        sludge_volume,
+        surface,
+        depth,
+        volume,
+    }
+}
+
+// E', the solids that the reactor, and nothing else, is sized with, g/m3
+pub fn reactor_solids(process: Process, solids: u64) -> u64
+    requires { ⌜ solids ≤ 14_000 ⌝ }
+    ensures { λ r. ⌜ (r ≡ reactorSolids process solids) × Between solids 16_800 r ⌝ }
+{
+    match process {
+        Process::PreAnoxic => solids,
+        Process::Simultaneous => solids,
+        Process::Intermittent => solids,
+        Process::StepFeed(steps) => match steps {
+            Steps::Two => 114 * solids / 100,
+            Steps::Three => 120 * solids / 100,
+        },
+    }
+}
+
+// Reactor volume, m3
+pub fn reactor_volume(mass: u64, solids: u64) -> u64
+    requires { ⌜ (mass ≤ 14_000_000) × Between 1 16_800 solids ⌝ }
+    ensures { λ r. ⌜ (r ≡ reactorVolume mass solids) × (r ≤ 1000 * mass) ⌝ }
+{
+    rounding::round_up(1000 * mass, solids)
+}
