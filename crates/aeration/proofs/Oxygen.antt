@@ -20,11 +20,11 @@ carbon-product flow bod uptake hf hb hu = mul-le-mul (mul-le-mul hf hb) hu
 
 -- where the nitrate is covered, saved oxygen is at most carbon's
 pub saved-at-most-carbon :
-  (flow bod uptake k d : ℕ) → 560 ≤ uptake → k ≤ 193 → T (covered k bod d) → savedOxygen flow d ≤ carbonOxygen flow bod uptake
+    (flow bod uptake k d : ℕ) → 560 ≤ uptake → k ≤ 193 → T (covered k bod d) → savedOxygen flow d ≤ carbonOxygen flow bod uptake
 unfolding covered savedOxygen carbonOxygen
 saved-at-most-carbon flow bod uptake k d hu hk t =
     let cover : 1000 * d ≤ k * bod = leb→le (1000 * d) (k * bod) t in
     let removed : flow * (1000 * d) ≤ flow * (193 * bod) =
-      mul-le-mul-left flow (le-trans cover (mul-le-mul-right bod hk)) in
+    mul-le-mul-left flow (le-trans cover (mul-le-mul-right bod hk)) in
     let taken : flow * bod * 560 ≤ flow * bod * uptake = mul-le-mul-left (flow * bod) hu in
     omega arith

@@ -120,5 +120,9 @@ pub fn aeration(plant: Plant, concentrations: Concentrations, reactor: Reactor) 
     let oxygen = hourly_oxygen(net, nitrification, carbon_peak, nitrogen_peak);
     let transfer = oxygen_transfer(saturation, oxygen);
     let recirculation = recirculated(process, nitrified, target);
-    Aeration { recirculation, oxygen, transfer }
+    Aeration {
+        recirculation,
+        oxygen,
+        transfer,
+    }
 }

@@ -45,7 +45,7 @@ recirculated-requires c κs = search needs
 
 returns : tie.Need-returns
 unfolding aerationOf
-returns c = 
+returns c =
     let transfer = c .before in
     let hourly = transfer .before in
     let nitrification = hourly .before in

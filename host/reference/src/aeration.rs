@@ -1,0 +1,54 @@
+//! Oxygen demand and recirculation.
+
+use crate::plant::Process;
+use crate::rounding::{down, up};
+
+/// Specific oxygen uptake for aeration, g/kg, rounded up.
+pub fn uptake_for_aeration(weighted_age: u64) -> u64 {
+    560 + up(15000 * weighted_age, 100000 + 17 * weighted_age)
+}
+
+/// Oxygen for carbon removal, g/d.
+pub fn carbon_oxygen(daily_flow: u64, bod: u64, uptake: u64) -> u64 {
+    up(daily_flow * bod * uptake, 1_000_000)
+}
+
+/// Oxygen for nitrification, g/d.
+pub fn nitrification_oxygen(daily_flow: u64, to_nitrify: u64) -> u64 {
+    up(43 * daily_flow * to_nitrify, 10_000)
+}
+
+/// Oxygen saved by denitrification, g/d.
+pub fn saved_oxygen(daily_flow: u64, to_denitrify: u64) -> u64 {
+    down(29 * daily_flow * to_denitrify, 10_000)
+}
+
+/// Hourly oxygen, g/h: the larger of the carbon peak and the nitrogen peak.
+///
+/// In a covered candidate the saved oxygen is below 542 g per kg BOD and
+/// the carbon demand at least 560, so the difference is not negative.
+pub fn hourly_oxygen(
+    carbon: u64,
+    saved: u64,
+    nitrification: u64,
+    carbon_peak_factor: u64,
+    nitrogen_peak_factor: u64,
+) -> u64 {
+    let net = carbon - saved;
+    let carbon_peak = up(carbon_peak_factor * net + 100 * nitrification, 2400);
+    let nitrogen_peak = up(100 * net + nitrogen_peak_factor * nitrification, 2400);
+    carbon_peak.max(nitrogen_peak)
+}
+
+/// Oxygen transfer in clean water, g/h, at 2 mg/l in the reactor.
+pub fn oxygen_transfer(saturation: u64, hourly: u64) -> u64 {
+    up(saturation * hourly, saturation - 2_000)
+}
+
+/// Recirculation ratio, thousandths.
+pub fn recirculation(process: Process, to_nitrify: u64, nitrate_target: u64) -> u64 {
+    match process {
+        Process::PreAnoxic => up(1000 * to_nitrify, nitrate_target).saturating_sub(1000),
+        _ => 0,
+    }
+}

@@ -1,0 +1,27 @@
+//! Reference implementation of the design of a single-stage activated
+//! sludge plant with nitrification and denitrification.
+//!
+//! Concentrations are in mg/m3, ages in thousandths of a day, all figures
+//! whole numbers. The largest product on accepted data, Q x C x specific
+//! oxygen uptake, is below 10^15, so u64 holds every step.
+
+pub mod aeration;
+pub mod age;
+pub mod choose;
+pub mod examine;
+pub mod listing;
+pub mod nitrogen;
+pub mod plant;
+pub mod reading;
+pub mod refusal;
+pub mod rounding;
+pub mod settling;
+pub mod sheet;
+pub mod sludge;
+
+pub use choose::choose;
+pub use examine::{examine, Candidate};
+pub use listing::{listing, write};
+pub use plant::{Plant, Precipitant, PrimarySettling, Process, Removal, Steps, TankFlow};
+pub use reading::{accept, Reading};
+pub use sheet::{Answer, Sheet};

@@ -1,0 +1,13 @@
+//! Numbers of the refusals.
+
+pub const PLANT_DATA: u8 = 1;
+pub const NO_NUMBER: u8 = 2;
+pub const READING_RANGE: u8 = 3;
+pub const COD_RATIO: u8 = 4;
+pub const NO_DESIGN: u8 = 5;
+pub const OFF_GRID: u8 = 6;
+pub const NITRATE: u8 = 7;
+pub const SOLIDS: u8 = 8;
+pub const SURFACE: u8 = 9;
+pub const DEPTH: u8 = 10;
+pub const SHORT_PAGE: u8 = 11;

@@ -1,0 +1,22 @@
+//! Tests of the reference implementation.
+
+#[path = "cases/common.rs"]
+mod common;
+#[path = "cases/errors.rs"]
+mod errors;
+#[path = "cases/extremes.rs"]
+mod extremes;
+#[path = "cases/order.rs"]
+mod order;
+#[path = "cases/pages.rs"]
+mod pages;
+#[path = "cases/properties.rs"]
+mod properties;
+#[path = "cases/ranges.rs"]
+mod ranges;
+#[path = "cases/readings.rs"]
+mod readings;
+#[path = "cases/steps.rs"]
+mod steps;
+#[path = "cases/table.rs"]
+mod table;

@@ -1,0 +1,98 @@
+//! Data at the ends of the ranges; overflow checks are on.
+
+use crate::common::*;
+use reference::*;
+
+fn largest_plant() -> Plant {
+    Plant {
+        bod_load: 1,
+        daily_flow: 200_000,
+        wet_weather_flow: 50_000,
+        design_temperature: 10,
+        aeration_temperature: 20,
+        sludge_volume_index: 50,
+        nitrate_target: 1_000,
+        phosphorus_target: 0,
+        carbon_peak_factor: 300,
+        nitrogen_peak_factor: 300,
+        oxygen_saturation: 6_000,
+        site_surface: 100_000,
+        site_depth: 10_000,
+        process: Process::Simultaneous,
+        precipitant: Precipitant::Iron,
+        tank_flow: TankFlow::Vertical,
+        removal: Removal::Hopper,
+        primary_settling: PrimarySettling::None,
+    }
+}
+
+#[test]
+fn largest_loads() {
+    let readings = measured([2_000.0, 4_400.0, 2_000.0, 350.0, 100.0]);
+    let mut permitted = 0;
+    for fraction in [200, 499, 500] {
+        for ratio in [30, 75, 79, 99, 100] {
+            for time in [20, 25] {
+                let place = candidate(fraction, ratio, time);
+                let answer = examine(&largest_plant(), &readings, place);
+                permitted += u32::from(answer.number() == 0);
+            }
+        }
+    }
+    assert!(permitted > 0);
+    assert_eq!(choose(&largest_plant(), &readings).number(), 0);
+}
+
+#[test]
+fn smallest_loads() {
+    let mut plant = plant_a();
+    plant.bod_load = 1;
+    plant.daily_flow = 1;
+    plant.wet_weather_flow = 1;
+    plant.site_surface = 1;
+    let readings = measured([20.0, 20.0, 0.0, 0.0, 0.0]);
+    let found = sheet(choose(&plant, &readings));
+    assert_eq!(found.settling_surface, 1);
+    assert_eq!(found.recirculation, 0);
+    assert_eq!(found.reactor_volume, 1);
+}
+
+/// Equal totals: the least f, then r, then h is taken.
+#[test]
+fn ties_of_the_total() {
+    let mut plant = plant_a();
+    plant.daily_flow = 1;
+    plant.wet_weather_flow = 1;
+    let readings = measured([20.0, 20.0, 0.0, 0.0, 0.0]);
+    let found = sheet(choose(&plant, &readings));
+    let mut first = None;
+    'sweep: for fraction in 200..=500 {
+        for ratio in 30..=75 {
+            for time in 20..=25 {
+                let place = candidate(fraction, ratio, time);
+                let answer = examine(&plant, &readings, place);
+                let same = answer.sheet().total_volume == found.total_volume;
+                if answer.number() == 0 && same {
+                    first = Some(answer.sheet());
+                    break 'sweep;
+                }
+            }
+        }
+    }
+    assert_eq!(first, Some(found));
+    assert_eq!(found.fraction, 200);
+}
+
+#[test]
+fn last_fraction_of_the_grid() {
+    let with =
+        |plant: &Plant, nitrogen| choose(plant, &measured([200.0, 400.0, 150.0, nitrogen, 8.0]));
+    // K is 149 at 499 and 150 at 500; D is 30,000.
+    assert_eq!(sheet(with(&plant_a(), 50.0)).fraction, 500);
+    // K is 152 at 500 and would be 153 at 501; D is 30,400, then 30,600.
+    let mut plant = plant_a();
+    plant.process = Process::Intermittent;
+    plant.design_temperature = 10;
+    assert_eq!(with(&plant, 50.4).number(), 0);
+    assert_eq!(with(&plant, 50.6), Answer::Refused(5));
+}

@@ -1,0 +1,118 @@
+//! Order of the refusals.
+
+use crate::common::*;
+use reference::*;
+
+const NAN: Reading = Reading::Measured(f32::NAN);
+const HUGE: Reading = Reading::Measured(1e30);
+
+fn number(plant: &Plant, readings: &[Reading; 5], candidate: Candidate) -> u8 {
+    let examined = examine(plant, readings, candidate);
+    if let number @ 1..=4 = examined.number() {
+        assert_eq!(choose(plant, readings), examined);
+        assert_eq!(accept(plant, readings), Err(number));
+    }
+    examined.number()
+}
+
+#[test]
+fn plant_data_before_readings() {
+    let mut plant = plant_a();
+    plant.site_depth = 2_999;
+    assert_eq!(number(&plant, &[NAN; 5], candidate(0, 0, 0)), 1);
+    assert_eq!(number(&plant, &[HUGE; 5], candidate(0, 0, 0)), 1);
+}
+
+#[test]
+fn readings_in_turn() {
+    for first in 0..5 {
+        for second in first + 1..5 {
+            let mut readings = readings_a();
+            readings[first] = HUGE;
+            readings[second] = NAN;
+            assert_eq!(number(&plant_a(), &readings, candidate_a()), 3);
+            readings[first] = Reading::Heads(0);
+            assert_eq!(number(&plant_a(), &readings, candidate_a()), 3);
+            readings[first] = Reading::Below(-1.0);
+            readings[second] = HUGE;
+            assert_eq!(number(&plant_a(), &readings, candidate_a()), 2);
+        }
+    }
+}
+
+#[test]
+fn readings_before_cod_ratio() {
+    let mut readings = measured([200.0, 450.0, 150.0, 46.0, 8.0]);
+    assert_eq!(number(&plant_a(), &readings, candidate(0, 0, 0)), 4);
+    readings[4] = HUGE;
+    assert_eq!(number(&plant_a(), &readings, candidate(0, 0, 0)), 3);
+    readings[4] = NAN;
+    assert_eq!(number(&plant_a(), &readings, candidate(0, 0, 0)), 2);
+}
+
+/// Faults 6 to 10 together, then taken away one by one.
+#[test]
+fn examining() {
+    let mut plant = plant_a();
+    plant.tank_flow = TankFlow::Vertical;
+    plant.removal = Removal::Hopper;
+    plant.site_surface = 1;
+    plant.site_depth = 3_000;
+    let readings = readings_a();
+    let of = |plant: &Plant, candidate| number(plant, &readings, candidate);
+    assert_eq!(of(&plant, candidate(199, 92, 20)), 6);
+    assert_eq!(of(&plant, candidate(299, 92, 20)), 7);
+    assert_eq!(of(&plant, candidate(300, 92, 20)), 8);
+    assert_eq!(of(&plant, candidate(300, 91, 20)), 9);
+    plant.site_surface = 1_000;
+    assert_eq!(of(&plant, candidate(300, 91, 20)), 10);
+    plant.site_depth = 10_000;
+    assert_eq!(of(&plant, candidate(300, 91, 20)), 0);
+}
+
+#[test]
+fn site_limits_are_inclusive() {
+    let at = |surface, depth| {
+        let mut plant = plant_a();
+        plant.site_surface = surface;
+        plant.site_depth = depth;
+        number(&plant, &readings_a(), candidate_a())
+    };
+    assert_eq!(at(454, 4_537), 0);
+    assert_eq!(at(453, 4_537), 9);
+    assert_eq!(at(454, 4_536), 10);
+}
+
+#[test]
+fn limits_of_solids() {
+    assert!(settling::solids_allowed(1_000, 600));
+    assert!(!settling::solids_allowed(999, 600));
+    assert!(!settling::solids_allowed(1_000, 601));
+    let mut plant = plant_a();
+    plant.sludge_volume_index = 200;
+    plant.removal = Removal::Suction;
+    // R is 3,147: E is 991 at 46 and 1,006 at 47.
+    assert_eq!(number(&plant, &readings_a(), candidate(300, 46, 20)), 8);
+    assert_eq!(number(&plant, &readings_a(), candidate(300, 47, 20)), 0);
+}
+
+#[test]
+fn nothing_permitted() {
+    let mut plant = plant_a();
+    let much_nitrogen = measured([200.0, 400.0, 150.0, 100.0, 8.0]);
+    assert_eq!(choose(&plant, &much_nitrogen), Answer::Refused(5));
+    // The least surface is 375 m2, at 1,600 mm/h.
+    let at = |plant: &Plant| choose(plant, &readings_a()).number();
+    plant.site_surface = 375;
+    assert_eq!(at(&plant), 0);
+    plant.site_surface = 374;
+    assert_eq!(at(&plant), 5);
+    // The least depth with E from 1,000 on is 3,155 mm, at 47 and 20.
+    let mut plant = plant_a();
+    plant.sludge_volume_index = 200;
+    plant.removal = Removal::Suction;
+    plant.site_depth = 3_155;
+    assert_eq!(at(&plant), 0);
+    plant.site_depth = 3_154;
+    assert_eq!(at(&plant), 5);
+}

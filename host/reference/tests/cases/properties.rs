@@ -1,0 +1,161 @@
+//! Properties on generated plants.
+
+use crate::common::*;
+use reference::choose::rank;
+use reference::examine::{most_return, on_grid};
+use reference::*;
+
+fn choices(generator: &mut Generator, plant: &mut Plant) {
+    plant.process = generator.pick(&[
+        Process::PreAnoxic,
+        Process::Simultaneous,
+        Process::Intermittent,
+        Process::StepFeed(Steps::Two),
+        Process::StepFeed(Steps::Three),
+    ]);
+    plant.precipitant = generator.pick(&[Precipitant::Iron, Precipitant::Aluminium]);
+    plant.tank_flow = generator.pick(&[TankFlow::Horizontal, TankFlow::Vertical]);
+    plant.removal = generator.pick(&[Removal::Scraper, Removal::Suction, Removal::Hopper]);
+    plant.primary_settling = generator.pick(&[
+        PrimarySettling::None,
+        PrimarySettling::Short,
+        PrimarySettling::Long,
+    ]);
+}
+
+fn plant(generator: &mut Generator) -> Plant {
+    let mut plant = plant_a();
+    choices(generator, &mut plant);
+    plant.bod_load = generator.within(1, 8_000);
+    plant.daily_flow = generator.within(1, 200_000);
+    plant.wet_weather_flow = generator.within(1, 50_000);
+    plant.design_temperature = generator.within(10, 20);
+    plant.aeration_temperature = generator.within(10, 20);
+    plant.sludge_volume_index = generator.within(50, 200);
+    plant.nitrate_target = generator.within(1_000, 50_000);
+    plant.phosphorus_target = generator.within(0, 5_000);
+    plant.carbon_peak_factor = generator.within(100, 300);
+    plant.nitrogen_peak_factor = generator.within(100, 300);
+    plant.oxygen_saturation = generator.within(6_000, 15_000);
+    plant.site_surface = generator.within(1, 100_000);
+    plant.site_depth = generator.within(3_000, 10_000);
+    plant
+}
+
+fn readings(generator: &mut Generator) -> [Reading; 5] {
+    let bod = generator.within(20_000, 600_000) as f32 / 1000.0;
+    let cod = (2.0 * bod).max(20.0);
+    let solids = generator.within(0, 600_000) as f32 / 1000.0;
+    let nitrogen = generator.within(0, 120_000) as f32 / 1000.0;
+    let phosphorus = generator.within(0, 20_000) as f32 / 1000.0;
+    let mut readings = measured([bod, cod, solids, nitrogen, phosphorus]);
+    if generator.within(0, 3) == 0 {
+        readings[4] = Reading::Below(2.0 * phosphorus);
+    }
+    if generator.within(0, 3) == 0 {
+        readings[2] = Reading::Heads(generator.within(1, 20_000));
+    }
+    readings
+}
+
+fn place(generator: &mut Generator, plant: &Plant) -> Candidate {
+    candidate(
+        generator.within(200, 500),
+        generator.within(30, most_return(plant.tank_flow)),
+        generator.within(20, 25),
+    )
+}
+
+fn candidate_of(sheet: &Sheet) -> Candidate {
+    candidate(
+        sheet.fraction as u32,
+        sheet.return_ratio as u32,
+        sheet.thickening as u32,
+    )
+}
+
+#[test]
+fn chosen_is_permitted_and_not_beaten() {
+    let mut generator = Generator::new(0x5eed_0002);
+    let mut designs = 0;
+    for _ in 0..300 {
+        let plant = plant(&mut generator);
+        let readings = readings(&mut generator);
+        let chosen = choose(&plant, &readings);
+        if let Answer::Sheet(sheet) = chosen {
+            designs += 1;
+            assert_eq!(examine(&plant, &readings, candidate_of(&sheet)), chosen);
+        }
+        for _ in 0..300 {
+            let place = place(&mut generator, &plant);
+            match (examine(&plant, &readings, place), chosen) {
+                (Answer::Sheet(other), Answer::Sheet(best)) => {
+                    assert!(rank(&best) <= rank(&other));
+                }
+                (Answer::Sheet(_), Answer::Refused(_)) => panic!("one is permitted"),
+                (Answer::Refused(number), Answer::Sheet(_)) => {
+                    assert!((7..=10).contains(&number));
+                }
+                (Answer::Refused(_), Answer::Refused(number)) => {
+                    assert!(number <= 5);
+                }
+            }
+        }
+    }
+    assert!(designs >= 50, "{designs} designs");
+}
+
+/// The whole grid, examined from its far end.
+#[test]
+fn chosen_is_the_first_of_all_examined() {
+    let mut generator = Generator::new(0x5eed_0003);
+    for _ in 0..6 {
+        let plant = plant(&mut generator);
+        let readings = readings(&mut generator);
+        let mut permitted = Vec::new();
+        for time in (20..=25).rev() {
+            for ratio in (30..=most_return(plant.tank_flow)).rev() {
+                for fraction in (200..=500).rev() {
+                    let place = candidate(fraction, ratio, time);
+                    if let Answer::Sheet(sheet) = examine(&plant, &readings, place) {
+                        permitted.push(sheet);
+                    }
+                }
+            }
+        }
+        let expected = match permitted.into_iter().min_by_key(rank) {
+            Some(sheet) => Answer::Sheet(sheet),
+            None => Answer::Refused(accept(&plant, &readings).err().unwrap_or(5)),
+        };
+        assert_eq!(choose(&plant, &readings), expected);
+    }
+}
+
+#[test]
+fn off_grid_is_always_6() {
+    let mut generator = Generator::new(0x5eed_0004);
+    for _ in 0..100_000 {
+        let place = candidate(
+            generator.bits() >> generator.within(0, 31),
+            generator.bits() >> generator.within(0, 31),
+            generator.bits() >> generator.within(0, 31),
+        );
+        let answer = examine(&plant_a(), &readings_a(), place);
+        let off = !on_grid(TankFlow::Horizontal, place);
+        assert_eq!(answer.number() == 6, off);
+    }
+}
+
+#[test]
+fn roundings() {
+    let mut generator = Generator::new(0x5eed_0005);
+    for _ in 0..100_000 {
+        let divisor = u64::from(generator.bits() >> generator.within(0, 31)).max(1);
+        let numerator = generator.next() >> generator.within(1, 63);
+        let down = rounding::down(numerator, divisor);
+        let up = rounding::up(numerator, divisor);
+        assert!(u128::from(down) * u128::from(divisor) <= u128::from(numerator));
+        assert!(u128::from(down + 1) * u128::from(divisor) > u128::from(numerator));
+        assert_eq!(up - down, u64::from(!numerator.is_multiple_of(divisor)));
+    }
+}
