@@ -83,6 +83,11 @@ refused-when-due p r y n = go (accept p r)
       settled (keepsGrid p y) (keepsNitrate p x y) (keepsSolids p y) (keepsSurface p y) (keepsDepth p y) (sheetOf p x y) n,
     )
 
+-- a permitted candidate of accepted data gets its sheet
+pub judge-permitted : (p : Plant) (x : Concentrations) (y : Candidate) → T (permitted p x y) → judge p x y ≡ Answer.Designed (sheetOf p x y)
+unfolding judge permitted
+judge-permitted p x y = all-hold (keepsGrid p y) (keepsNitrate p x y) (keepsSolids p y) (keepsSurface p y) (keepsDepth p y) (sheetOf p x y)
+
 -- of accepted data, examining gives a sheet exactly when the candidate is permitted, and it is the steps' sheet
 pub sheet-when-permitted :
     (p : Plant) (r : Readings) (x : Concentrations) (y : Candidate) (s : Sheet)
@@ -91,14 +96,11 @@ pub sheet-when-permitted :
 unfolding examine judgeAccepted judge permitted
 sheet-when-permitted p r x y s e = (
   λ d. subst (Judged p x y) (sym accepted ∙ d) (judged p x y),
-  λ h. accepted ∙ (holds (h .0) ∙ ap Answer.Designed (h .1)),
+  λ h. accepted ∙ (judge-permitted p x y (h .0) ∙ ap Answer.Designed (h .1)),
 )
   where
     accepted : examine p r y ≡ judge p x y
     accepted = ap (judgeAccepted p y) e
-
-    holds : T (permitted p x y) → judge p x y ≡ Answer.Designed (sheetOf p x y)
-    holds = all-hold (keepsGrid p y) (keepsNitrate p x y) (keepsSolids p y) (keepsSurface p y) (keepsDepth p y) (sheetOf p x y)
 
 -- a candidate keeps each of the rules 6 to 10
 pub record Keeps (p : Plant) (x : Concentrations) (y : Candidate) : Type 0 where

@@ -1,0 +1,39 @@
+-- `choose` meets its contract: a refusal of the data stands, accepted data are in range and the least design is chosen. Assumes nothing.
+use borrow.Author.Needs.{needs}
+use mathlib.Core.Path.{refl, sym, _∙_, subst}
+use Rattle.rules.specs.Choosing.{ChosenAccepted}
+use Rattle.readings.proofs.AcceptedRanges.{accepted-ranges}
+use Rattle.choosing.proofs.choose.Statement.{statement}
+use Rattle.choosing.proofs.choose.Tie as tie
+
+accept-requires : tie.Need-accept-requires
+accept-requires c κs = search needs
+
+enum-known-refusal : tie.Need-enum-known-refusal
+enum-known-refusal c = search needs
+
+enum-known-concentrations : tie.Need-enum-known-concentrations
+enum-known-concentrations c = search needs
+
+choose-accepted-requires : tie.Need-choose-accepted-requires
+choose-accepted-requires c κs =
+    let start = c .before .before .before .before in
+    accepted-ranges (start .args .plant) (start .args .readings) (c .before .concentrations .given .0 .0)
+    (sym (c .before .before .before .accept .ensures) ∙ c .before .concentrations .given .1)
+
+returns : tie.Need-returns
+returns c = rw (sym (c .before .before .before .accept .ensures) ∙ c .before .refusal .given .1)
+
+returns-2 : tie.Need-returns-2
+returns-2 c = rw (sym (c .before .before .before .before .accept .ensures) ∙ c .before .before .concentrations .given .1) (c .choose-accepted .ensures)
+
+pub choose-spec : {M : Type 1} → statement M
+choose-spec =
+    tie.close
+    (tie.spec
+    accept-requires
+    enum-known-refusal
+    enum-known-concentrations
+    choose-accepted-requires
+    returns
+    returns-2)

@@ -1,0 +1,167 @@
+// Choosing: the least permitted design of the whole grid, or that there is none. What depends on the fraction alone is
+// computed once for each fraction, what depends on the settling tank alone once for each tank.
+use rules::Acceptance;
+use rules::Answer;
+use rules::Candidate;
+use rules::Concentrations;
+use rules::Plant;
+use rules::Readings;
+use rules::Refusal;
+ghost use mathlib.Core.Path.{_≡_};
+ghost use Prim.Native.Nat.{_≤_, _<_};
+ghost use Rattle.rules.specs.SludgeTanks.{thickeningRoot, bottomSludge};
+ghost use Rattle.rules.specs.Ranges.{Between, PlantRanges, ConcentrationRanges};
+ghost use Rattle.rules.specs.Choosing.{grid, ChosenAmong, Chosen};
+ghost use Rattle.choosing.specs.Keys.{noneYet, keyCandidate, coveredMass, tankOf, tankIndex, improvedKey, LeastKey, Filled};
+
+// What the sweep's table holds of one settling tank.
+pub struct Tank {
+    // E', or 0 where the tank breaks a rule
+    pub solids: u64,
+    // settling volume, m3
+    pub volume: u64,
+}
+
+// Above every key and every mass: no design yet, or a fraction that is not covered.
+const NONE_YET: u64 = 18_446_744_073_709_551_615;
+
+// The sludge mass at a fraction, or NONE_YET where the nitrate is not covered.
+fn covered_mass(plant: Plant, concentrations: Concentrations, fraction: u32) -> u64
+    requires { ⌜ PlantRanges plant × ConcentrationRanges concentrations × Between 200 500 fraction ⌝ }
+    ensures { λ r. ⌜ r ≡ coveredMass plant concentrations fraction ⌝ }
+{
+    let reactor = reactor::reactor(plant, concentrations, fraction);
+    if reactor::covers(reactor.capacity, concentrations.bod, reactor.denitrified) {
+        reactor.mass
+    } else {
+        NONE_YET
+    }
+}
+
+// A settling tank's entry in the table, from the bottom sludge of its thickening time.
+fn tank_entry(plant: Plant, return_ratio: u32, thickening: u32, bottom: u64) -> Tank
+    requires { ⌜ PlantRanges plant × Between 30 100 «return_ratio» × Between 20 25 thickening ⌝ }
+    requires { ⌜ bottom ≡ bottomSludge (thickeningRoot thickening) (plant .«sludge_volume_index») ⌝ }
+    ensures { λ r. ⌜ r ≡ tankOf plant «return_ratio» thickening ⌝ }
+{
+    let process = plant.process;
+    let surface = plant.site_surface as u64;
+    let depth = plant.site_depth as u64;
+    let settling = settling::settling(plant, return_ratio, thickening, bottom);
+    if settling::solids_kept(settling.solids, settling.sludge_volume)
+        & (settling.surface <= surface)
+        & (settling.depth <= depth)
+    {
+        Tank {
+            solids: settling::reactor_solids(process, settling.solids),
+            volume: settling.volume,
+        }
+    } else {
+        Tank {
+            solids: 0,
+            volume: 0,
+        }
+    }
+}
+
+// The place of a return ratio and a thickening time in the table.
+fn tank_index(return_ratio: u32, thickening: u32) -> usize
+    requires { ⌜ Between 30 100 «return_ratio» × Between 20 25 thickening ⌝ }
+    ensures { λ r. ⌜ (r ≡ tankIndex «return_ratio» thickening) × (r < 426) ⌝ }
+{
+    ((return_ratio - 30) * 6 + (thickening - 20)) as usize
+}
+
+// The table of the settling tanks with return ratios up to the last, filled once.
+fn tanks(plant: Plant, last: u32) -> [Tank; 426]
+    requires { ⌜ PlantRanges plant × Between 30 100 last ⌝ }
+    ensures { λ r. ⌜ Filled plant last r ⌝ }
+{
+    let index = plant.sludge_volume_index;
+    let mut table = [Tank {
+        solids: 0,
+        volume: 0,
+    }; 426];
+    'time: for h in 20..=25 {
+        let bottom = settling::bottom_sludge(index, h);
+        'ratio: for r in 30..=last {
+            table[tank_index(r, h)] = tank_entry(plant, r, h, bottom);
+        }
+    }
+    table
+}
+
+// The lesser of a key and the key of one more candidate, which counts only where its tank keeps the rules.
+fn improved(best: u64, mass: u64, tank: Tank, f: u32, r: u32, h: u32) -> u64
+    requires { ⌜ (mass ≤ 14_000_000) × (tank .solids ≤ 16_800) × (tank .volume ≤ 1_400_000) × (f ≤ 500) × (r ≤ 100) × (h ≤ 25) ⌝ }
+    ensures { λ k. ⌜ k ≡ improvedKey best mass tank f r h ⌝ }
+{
+    if tank.solids == 0 {
+        return best;
+    }
+    let total = settling::reactor_volume(mass, tank.solids) + tank.volume;
+    let key = total * 2_097_152 + (f as u64 * 4_096 + r as u64 * 32 + h as u64);
+    if best <= key { best } else { key }
+}
+
+// The least key over the whole grid, or NONE_YET where nothing is permitted. A fraction that is not covered, or that is
+// no lighter than a covered one before it, is left at its label.
+fn sweep(plant: Plant, concentrations: Concentrations) -> u64
+    requires { ⌜ PlantRanges plant × ConcentrationRanges concentrations ⌝ }
+    ensures { λ r. ⌜ LeastKey plant concentrations (grid plant) r ⌝ }
+{
+    let flow = plant.tank;
+    let last = examining::largest_return_ratio(flow);
+    let table = tanks(plant, last);
+    let mut best = NONE_YET;
+    let mut lightest = NONE_YET;
+    'fraction: for f in 200..=500 {
+        let mass = covered_mass(plant, concentrations, f);
+        if lightest <= mass {
+            continue 'fraction;
+        }
+        lightest = mass;
+        'ratio: for r in 30..=last {
+            'time: for h in 20..=25 {
+                let i = tank_index(r, h);
+                let tank = table[i];
+                best = improved(best, mass, tank, f, r, h);
+            }
+        }
+    }
+    best
+}
+
+// The candidate that a key names.
+fn key_candidate(key: u64) -> Candidate
+    ensures { λ r. ⌜ r ≡ keyCandidate key ⌝ }
+{
+    Candidate {
+        fraction: (key % 2_097_152 / 4_096) as u32,
+        return_ratio: (key % 4_096 / 32) as u32,
+        thickening: (key % 32) as u32,
+    }
+}
+
+// The design chosen for accepted data.
+pub fn choose_accepted(plant: Plant, concentrations: Concentrations) -> Answer
+    requires { ⌜ PlantRanges plant × ConcentrationRanges concentrations ⌝ }
+    ensures { λ r. ⌜ ChosenAmong plant concentrations (grid plant) r ⌝ }
+{
+    let best = sweep(plant, concentrations);
+    if best == NONE_YET {
+        Answer::Refused(Refusal::NoDesign)
+    } else {
+        examining::judge(plant, concentrations, key_candidate(best))
+    }
+}
+
+// What choosing answers for any plant data and lab readings.
+pub fn choose(plant: Plant, readings: Readings) -> Answer
+    ensures { λ r. ⌜ Chosen plant readings r ⌝ }
+{
+    match readings::accept(plant, readings) {
+        Acceptance::Refused(refusal) => Answer::Refused(refusal),
+        Acceptance::Accepted(concentrations) => choose_accepted(plant, concentrations),
+    }
+}
