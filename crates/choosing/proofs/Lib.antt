@@ -5,3 +5,4 @@ pub mod Choice
 pub mod Entries
 pub mod TableFilling
 pub mod Turns
+pub mod Refuted

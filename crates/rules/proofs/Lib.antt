@@ -8,4 +8,5 @@ pub mod Examined
 pub mod NitrateColumns
 pub mod ChosenOnce
 pub mod Numeral
+pub mod Computing
 pub mod WorkedCases
