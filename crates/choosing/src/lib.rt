@@ -12,6 +12,7 @@ ghost use Prim.Native.Nat.{_≤_, _<_};
 ghost use Rattle.rules.specs.SludgeTanks.{thickeningRoot, bottomSludge};
 ghost use Rattle.rules.specs.Ranges.{Between, PlantRanges, ConcentrationRanges};
 ghost use Rattle.rules.specs.Choosing.{grid, ChosenAmong, Chosen};
+ghost use Rattle.rules.specs.TwoColumns.{TwoColumns};
 ghost use Rattle.choosing.specs.Keys.{noneYet, keyCandidate, coveredMass, tankOf, tankIndex, improvedKey, LeastKey, Filled};
 
 // What the sweep's table holds of one settling tank.
@@ -159,6 +160,7 @@ pub fn choose_accepted(plant: Plant, concentrations: Concentrations) -> Answer
 // What choosing answers for any plant data and lab readings.
 pub fn choose(plant: Plant, readings: Readings) -> Answer
     ensures { λ r. ⌜ Chosen plant readings r ⌝ }
+    ensures columns { λ r. ⌜ TwoColumns plant readings r ⌝ }
 {
     match readings::accept(plant, readings) {
         Acceptance::Refused(refusal) => Answer::Refused(refusal),

@@ -1,1 +1,3 @@
 pub mod Verdicts
+pub mod WrongExaminers
+pub mod Refuted

@@ -1,7 +1,7 @@
 -- Each exit of examining, over plain values: what the tests on the way there make of the definition. Assumes nothing.
-use mathlib.Core.Path.{_≡_, refl, sym, ap, _∙_}
-use mathlib.Core.Bool.{Bool, true, false}
-use Prim.Native.Nat.{ℕ, _≤_, _<_}
+use mathlib.Core.Path.{_≡_, ap}
+use mathlib.Core.Bool.{true, false}
+use Prim.Native.Nat.{_≤_, _<_}
 use borrow.Author.Tests.{le-leb, lt-leb}
 use Rattle.rules.specs.AgeNitrate.{onGrid, covered}
 use Rattle.rules.specs.SludgeTanks.{reactorOf, settlingOf, solidsKept}

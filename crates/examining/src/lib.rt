@@ -16,6 +16,7 @@ ghost use Rattle.rules.specs.AgeNitrate.{largestReturnRatio, onGrid};
 ghost use Rattle.rules.specs.Ranges.{Between, PlantRanges, ConcentrationRanges, ReactorBounds, SettlingBounds};
 ghost use Rattle.rules.specs.Examining.{sheetFrom, judge, examine};
 ghost use Rattle.examining.specs.Stages.{judgeTank, Covered};
+ghost use Rattle.rules.specs.TwoColumns.{TwoColumns};
 
 // The largest return ratio of the grid.
 pub fn largest_return_ratio(tank: TankFlow) -> u32
@@ -116,9 +117,10 @@ pub fn judge(plant: Plant, concentrations: Concentrations, candidate: Candidate)
     }
 }
 
-// What examining answers for any plant data, lab readings and candidate.
+// What examining answers for any plant data, lab readings and candidate; a sheet keeps the two columns.
 pub fn examine(plant: Plant, readings: Readings, candidate: Candidate) -> Answer
     ensures { λ r. ⌜ r ≡ examine plant readings candidate ⌝ }
+    ensures columns { λ r. ⌜ TwoColumns plant readings r ⌝ }
 {
     match readings::accept(plant, readings) {
         Acceptance::Refused(refusal) => Answer::Refused(refusal),

@@ -1,14 +1,15 @@
 -- The two columns that are read aloud: nitrate to be removed, and nitrate that the tank can remove. On every permitted
 -- candidate, and so on every sheet, the second is never the smaller. Assumes nothing.
-use mathlib.Core.Path.{_≡_}
+use mathlib.Core.Path.{_≡_, refl, ap, sym, _∙_, subst}
 use Prim.Native.Nat.{ℕ, _*_, _≤_}
 use native.Mathlib.Omega.{arith}
 use lib.Dec.{T, leb→le}
 use Rattle.rules.specs.LabReadings.{accept}
 use Rattle.rules.specs.AgeNitrate.{removable, covered}
 use Rattle.rules.specs.SludgeTanks.{reactorOf}
-use Rattle.rules.specs.Examining.{keepsNitrate, permitted, examine}
-use Rattle.rules.specs.Choosing.{Candidates, Least, candidateOf}
+use Rattle.rules.specs.Examining.{keepsNitrate, permitted, sheetFrom, sheetOf, judgeAccepted, examine}
+use Rattle.rules.specs.Choosing.{candidateOf, ChosenAccepted, Chosen}
+use Rattle.rules.specs.TwoColumns.{Removes, RemovesAccepted, TwoColumns}
 use Rattle.rules.specs.declared.Plant.{Plant}
 use Rattle.rules.specs.declared.Readings.{Readings}
 use Rattle.rules.specs.declared.Concentrations.{Concentrations}
@@ -19,10 +20,6 @@ use Rattle.rules.specs.declared.Answer.{Answer}
 use Rattle.rules.proofs.Quotients.{le-down}
 use Rattle.rules.proofs.Examined.{permitted-keeps, sheet-when-permitted}
 
--- the first column is at most the second at a candidate
-abbrev pub Columns : Plant → Concentrations → Candidate → Type 0
-Columns p x y = reactorOf p x (y .fraction) .denitrified ≤ removable (reactorOf p x (y .fraction) .capacity) (x .bod)
-
 -- what is covered can be removed
 pub covered-removable : (k bod d : ℕ) → T (covered k bod d) → d ≤ removable k bod
 unfolding covered removable
@@ -31,21 +28,45 @@ covered-removable k bod d t =
     le-down (k * bod) 1000 d (omega arith) .1 (omega arith)
 
 -- The law of the two columns, of every permitted candidate.
-pub two-columns : (p : Plant) (x : Concentrations) (y : Candidate) → T (permitted p x y) → Columns p x y
+pub two-columns : (p : Plant) (x : Concentrations) (y : Candidate) → T (permitted p x y) → Removes p x (y .fraction)
 unfolding keepsNitrate
 two-columns p x y t =
     covered-removable (reactorOf p x (y .fraction) .capacity) (x .bod) (reactorOf p x (y .fraction) .denitrified)
     (permitted-keeps p x y .0 t .nitrate)
 
--- The same of every sheet that examining gives.
-pub two-columns-examined :
-    (p : Plant) (r : Readings) (x : Concentrations) (y : Candidate) (s : Sheet)
-    → accept p r ≡ Acceptance.Accepted x
-    → examine p r y ≡ Answer.Designed s
-    → Columns p x y
-two-columns-examined p r x y s e d = two-columns p x y (sheet-when-permitted p r x y s e .0 d .0)
+-- The same of every sheet that examining gives: its data are accepted, its candidate is permitted, and its fraction is
+-- the candidate's.
+pub examined-columns : (p : Plant) (r : Readings) (y : Candidate) (a : Answer) → a ≡ examine p r y → TwoColumns p r a
+unfolding examine judgeAccepted sheetOf sheetFrom
+examined-columns p r y (Answer.Refused n) e = tt
+examined-columns p r y (Answer.Designed s) e = go (accept p r) refl
+  where
+    go : (o : Acceptance) → accept p r ≡ o → RemovesAccepted p (s .fraction) o
+    go (Acceptance.Refused n) q =
+        let refused : Answer.Designed s ≡ Answer.Refused n = e ∙ ap (judgeAccepted p y) q in
+        let z : _≡_ {A = ℕ} 0 1 = cc in
+        omega arith
+    go (Acceptance.Accepted x) q =
+        let sheet = sheet-when-permitted p r x y s q .0 (sym e) in
+        let own : y .fraction ≡ s .fraction = ap (λ (t : Sheet). t .fraction) (sheet .1) in
+        subst (Removes p x) own (two-columns p x y (sheet .0))
 
--- The same of every sheet that is chosen, at its own candidate.
-pub two-columns-chosen :
-    (p : Plant) (x : Concentrations) (among : Candidates) (s : Sheet) → Least p x among s → Columns p x (candidateOf s)
-two-columns-chosen p x among s l = two-columns p x (candidateOf s) (l .allowed)
+-- The same of every sheet that is chosen.
+pub chosen-columns : (p : Plant) (r : Readings) (a : Answer) → Chosen p r a → TwoColumns p r a
+unfolding candidateOf
+chosen-columns p r (Answer.Refused n) h = tt
+chosen-columns p r (Answer.Designed s) h = go (accept p r) h
+  where
+    go : (o : Acceptance) → ChosenAccepted p (Answer.Designed s) o → RemovesAccepted p (s .fraction) o
+    go (Acceptance.Refused n) e =
+        let z : _≡_ {A = ℕ} 0 1 = cc in
+        omega arith
+    go (Acceptance.Accepted x) l = two-columns p x (candidateOf s) (l .allowed)
+
+-- both clauses of what the calls promise, from the first
+pub with-columns :
+    (p : Plant) (r : Readings) (y : Candidate) (a : Answer) → a ≡ examine p r y → (a ≡ examine p r y) × TwoColumns p r a
+with-columns p r y a e = (e, examined-columns p r y a e)
+
+pub chosen-with-columns : (p : Plant) (r : Readings) (a : Answer) → Chosen p r a → Chosen p r a × TwoColumns p r a
+chosen-with-columns p r a h = (h, chosen-columns p r a h)

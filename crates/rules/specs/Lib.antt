@@ -8,6 +8,7 @@ pub mod SludgeTanks
 pub mod AerationSteps
 pub mod Ranges
 pub mod Examining
+pub mod TwoColumns
 pub mod Answers
 pub mod Choosing
 pub mod Listing

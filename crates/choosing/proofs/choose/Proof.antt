@@ -2,6 +2,7 @@
 use borrow.Author.Needs.{needs}
 use mathlib.Core.Path.{refl, sym, _∙_, subst}
 use Rattle.rules.specs.Choosing.{ChosenAccepted}
+use Rattle.rules.proofs.NitrateColumns.{chosen-with-columns}
 use Rattle.readings.proofs.AcceptedRanges.{accepted-ranges}
 use Rattle.choosing.proofs.choose.Statement.{statement}
 use Rattle.choosing.proofs.choose.Tie as tie
@@ -22,10 +23,16 @@ choose-accepted-requires c κs =
     (sym (c .before .before .before .accept .ensures) ∙ c .before .concentrations .given .1)
 
 returns : tie.Need-returns
-returns c = rw (sym (c .before .before .before .accept .ensures) ∙ c .before .refusal .given .1)
+returns c =
+    let start = c .before .before .before .before in
+    chosen-with-columns (start .args .plant) (start .args .readings) _
+    (rw (sym (c .before .before .before .accept .ensures) ∙ c .before .refusal .given .1))
 
 returns-2 : tie.Need-returns-2
-returns-2 c = rw (sym (c .before .before .before .before .accept .ensures) ∙ c .before .before .concentrations .given .1) (c .choose-accepted .ensures)
+returns-2 c =
+    let start = c .before .before .before .before .before in
+    chosen-with-columns (start .args .plant) (start .args .readings) (c .choose-accepted .result)
+    (rw (sym (c .before .before .before .before .accept .ensures) ∙ c .before .before .concentrations .given .1) (c .choose-accepted .ensures))
 
 pub choose-spec : {M : Type 1} → statement M
 choose-spec =

@@ -1,5 +1,7 @@
 -- `sheet_from` meets its contract: the two volumes are their steps, the rest is handed on. Assumes nothing.
 use borrow.Author.Needs.{needs}
+use mathlib.Core.Path.{ap, _∙_}
+use Rattle.rules.specs.SludgeTanks.{reactorVolume}
 use Rattle.rules.specs.Examining.{totalOf, sheetFrom}
 use Rattle.examining.proofs.sheet_from.Statement.{statement}
 use Rattle.examining.proofs.sheet_from.Tie as tie
@@ -26,7 +28,8 @@ returns : tie.Need-returns
 unfolding sheetFrom totalOf
 returns c =
     let volume = c .before .before .before .before in
-    rw (volume .reactor-volume .ensures .0, volume .before .reactor-solids .ensures .0)
+    let mass = volume .before .before .args .reactor .mass in
+    rw (volume .reactor-volume .ensures .0 ∙ ap (reactorVolume mass) (volume .before .reactor-solids .ensures .0))
 
 pub sheet-from-spec : {M : Type 1} → statement M
 sheet-from-spec =

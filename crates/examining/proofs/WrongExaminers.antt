@@ -1,0 +1,107 @@
+-- The wrong examiners that document 01 names, each on data where it answers otherwise than the definition. The theorem
+-- `refuted` in proofs/Refuted.antt proves the record. Assumes nothing.
+use Prim.Native.Nat.{ℕ, _+_, _-_, _*_, max}
+use mathlib.Core.Path.{_≡_}
+use mathlib.Core.Bool.{cond}
+use Rattle.rules.specs.Rounding.{down, up}
+use Rattle.rules.specs.AgeNitrate.{capacityUptake, correctedAge, covered}
+use Rattle.rules.specs.SludgeTanks.{reactorOf, reactorVolume}
+use Rattle.rules.specs.AerationSteps.{aerationUptake, carbonOxygen, savedOxygen, nitrificationOxygen, hourlyOxygen}
+use Rattle.rules.specs.Examining.{examine}
+use Rattle.rules.specs.Answers.{answerNumber, answerSheet}
+use Rattle.rules.specs.Cases.{plantWith, caseA, readingsA, concentrationsA, candidate}
+use Rattle.rules.specs.declared.Plant.{Plant}
+use Rattle.rules.specs.declared.Process.{Process}
+use Rattle.rules.specs.declared.Steps.{Steps}
+use Rattle.rules.specs.declared.TankFlow.{TankFlow}
+use Rattle.rules.specs.declared.Removal.{Removal}
+use Rattle.rules.specs.declared.Readings.{Readings}
+use Rattle.rules.specs.declared.Candidate.{Candidate}
+use Rattle.rules.specs.declared.Sheet.{Sheet}
+use Rattle.rules.specs.declared.Refusal.{Refusal}
+use Rattle.rules.specs.declared.Answer.{Answer}
+
+-- an examiner's answer differs from the definition's somewhere
+abbrev Wrong : (Plant → Readings → Candidate → Answer) → Type 0
+Wrong answer = ((p : Plant) (r : Readings) (y : Candidate) → answer p r y ≡ examine p r y) → ⊥
+
+-- a figure of the definition is the right one, and the wrong one is another
+abbrev Differ : (figure right wrong : ℕ) → Type 0
+Differ figure right wrong = (figure ≡ right) × (right ≡ wrong → ⊥)
+
+-- what a plant gets with Case A's readings
+abbrev answerAt : Plant → ℕ → ℕ → ℕ → Answer
+answerAt p f r h = examine p readingsA (candidate f r h)
+
+abbrev sheetAt : Plant → ℕ → ℕ → ℕ → Sheet
+sheetAt p f r h = answerSheet (answerAt p f r h)
+
+-- Case A's plant with another process and nitrate target
+unfoldable pub withProcess : Process → ℕ → Plant
+withProcess process target =
+    record {
+      load = caseA .load;
+      flow = caseA .flow;
+      «wet_weather_flow» = caseA .«wet_weather_flow»;
+      «design_temperature» = caseA .«design_temperature»;
+      «aeration_temperature» = caseA .«aeration_temperature»;
+      «sludge_volume_index» = caseA .«sludge_volume_index»;
+      «nitrate_target» = target;
+      «phosphorus_target» = caseA .«phosphorus_target»;
+      «carbon_peak» = caseA .«carbon_peak»;
+      «nitrogen_peak» = caseA .«nitrogen_peak»;
+      «oxygen_saturation» = caseA .«oxygen_saturation»;
+      «site_surface» = caseA .«site_surface»;
+      «site_depth» = caseA .«site_depth»;
+      process = process;
+      precipitant = caseA .precipitant;
+      tank = caseA .tank;
+      removal = caseA .removal;
+      «primary_settling» = caseA .«primary_settling»;
+    }
+
+abbrev simultaneous : Plant
+simultaneous = withProcess Process.Simultaneous 9_000
+
+-- 7 or a sheet's 0 for that plant at a fraction, by a rounding of o for the capacity
+abbrev numberBy : (ℕ → ℕ) → ℕ → ℕ
+numberBy uptake f =
+    let reactor = reactorOf simultaneous concentrationsA f in
+    cond (covered (down (75 * f * uptake (correctedAge (reactor .age) 12)) 290_000) 200_000 (reactor .denitrified)) 0 7
+
+-- its hourly oxygen, by a rounding of o for the aeration
+abbrev oxygenBy : (ℕ → ℕ) → ℕ → ℕ
+oxygenBy uptake f =
+    let reactor = reactorOf simultaneous concentrationsA f in
+    hourlyOxygen
+    (carbonOxygen 5_000 200_000 (uptake (correctedAge (reactor .age) 20)) - savedOxygen 5_000 (reactor .denitrified))
+    (nitrificationOxygen 5_000 (reactor .nitrified))
+    120
+    200
+
+-- the depth of Case A at r 50 and h 20, where q is held at 1,600, V is 294 and E 2,937, by its sludge volume loading
+abbrev depthBy : ℕ → ℕ
+depthBy loading =
+    max
+    3_000
+    (500 + up (5 * 1_600 * 150) (1000 - 294) + up (9 * loading * 150) 1000 + up (2_937 * 1_600 * 150 * 20) (1000 * 12_590))
+
+pub record Refuted : Type 0 where
+  -- it answers 7 to everything: Case A gets a sheet
+  pub always-7 : Wrong (λ p r y. Answer.Refused Refusal.Nitrate)
+  -- it answers Case A's sheet to everything: the fraction 299 is refused
+  pub always-case-A : Wrong (λ p r y. Answer.Designed (sheetAt caseA 300 75 20))
+  -- it does so for every candidate that gets a sheet: the return ratio 50 has another depth
+  pub case-A-for-candidates : Differ (sheetAt caseA 300 50 20 .depth) 3_956 (sheetAt caseA 300 75 20 .depth)
+  -- it does so for every plant that gets a sheet: suction has other solids
+  pub case-A-for-plants :
+      Differ (sheetAt (plantWith TankFlow.Horizontal Removal.Suction) 300 75 20 .solids) 2_697 (sheetAt caseA 300 75 20 .solids)
+  -- it rounds o up for the capacity, as for the aeration: it gives a sheet where 7 is due
+  pub uptake-up : Differ (answerNumber (answerAt simultaneous 452 75 20)) (numberBy capacityUptake 452) (numberBy aerationUptake 452)
+  -- it rounds o down for the aeration, as for the capacity: its sheet has too little oxygen
+  pub uptake-down : Differ (sheetAt simultaneous 453 75 20 .oxygen) (oxygenBy aerationUptake 453) (oxygenBy capacityUptake 453)
+  -- it keeps q_SV at 500 in the depth after q was held at m
+  pub loading-kept : Differ (sheetAt caseA 300 50 20 .depth) (depthBy (up (1_600 * 294) 1000)) (depthBy 500)
+  -- it takes the reactor's volume with E in step-feed too
+  pub solids-not-raised :
+      Differ (sheetAt (withProcess (Process.StepFeed Steps.Two) 10_000) 300 75 20 .reactor) (reactorVolume 11_733 4_305) (reactorVolume 11_733 3_777)
