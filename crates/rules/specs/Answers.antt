@@ -5,6 +5,8 @@ use Rattle.rules.specs.declared.Refusal.{Refusal}
 use Rattle.rules.specs.declared.Acceptance.{Acceptance}
 use Rattle.rules.specs.declared.Answer.{Answer}
 use Rattle.rules.specs.declared.Written.{Written}
+use Rattle.rules.specs.declared.Explained.{Explained}
+use Rattle.rules.specs.declared.Explanation.{Explanation}
 
 -- the paper's number of each refusal
 unfoldable pub refusalNumber : Refusal → ℕ
@@ -63,3 +65,13 @@ writtenNumber (Written.Refused r) = refusalNumber r
 unfoldable pub writtenCount : Written → ℕ
 writtenCount (Written.Bytes n) = n
 writtenCount (Written.Refused r) = 0
+
+-- the number and the figures that an explanation carries: 0 and the figures, or the refusal's number and zeros
+unfoldable pub explanationNumber : Explanation → ℕ
+explanationNumber (Explanation.Figures e) = 0
+explanationNumber (Explanation.Refused n) = refusalNumber n
+
+unfoldable pub explanationFigures : Explanation → Explained
+explanationFigures (Explanation.Figures e) = e
+explanationFigures (Explanation.Refused n) =
+    record { denitrified = 0; removable = 0; solids = 0; «sludge_volume» = 0; surface = 0; depth = 0 }

@@ -9,6 +9,7 @@ pub mod AerationSteps
 pub mod Ranges
 pub mod Examining
 pub mod TwoColumns
+pub mod Explaining
 pub mod Answers
 pub mod Choosing
 pub mod Listing

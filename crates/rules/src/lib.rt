@@ -215,3 +215,25 @@ pub enum Written {
     Bytes(usize),
     Refused(Refusal),
 }
+
+// The figures that explain a candidate, whatever the rules 7 to 10 say of it.
+pub struct Explained {
+    // D, nitrate to be removed, mg/m3
+    pub denitrified: u64,
+    // nitrate that the tank can remove, mg/m3
+    pub removable: u64,
+    // E, g/m3
+    pub solids: u64,
+    // V, l/m3
+    pub sludge_volume: u64,
+    // A, m2
+    pub surface: u64,
+    // H, mm
+    pub depth: u64,
+}
+
+// What explaining a candidate answers: its figures, or one refusal of 1 to 4 and 6.
+pub enum Explanation {
+    Figures(Explained),
+    Refused(Refusal),
+}

@@ -1,0 +1,43 @@
+// The calls that a host makes: each answers any arguments, and its contract equates its whole outcome with document 01.
+use rules::Answer;
+use rules::Candidate;
+use rules::Explanation;
+use rules::Plant;
+use rules::Readings;
+use rules::Written;
+ghost use mathlib.Core.Path.{_≡_};
+ghost use Rattle.rules.specs.Examining.{examine};
+ghost use Rattle.rules.specs.Choosing.{Chosen};
+ghost use Rattle.rules.specs.Explaining.{explain};
+ghost use Rattle.rules.specs.TwoColumns.{TwoColumns};
+ghost use Rattle.listing.specs.Pages.{Writes};
+
+// Demands 1 and 2: the complete sheet of a candidate, or the one refusal that is due.
+pub fn examine(plant: Plant, readings: Readings, candidate: Candidate) -> Answer
+    ensures { λ r. ⌜ r ≡ examine plant readings candidate ⌝ }
+    ensures columns { λ r. ⌜ TwoColumns plant readings r ⌝ }
+{
+    examining::examine(plant, readings, candidate)
+}
+
+// Demand 3: the least permitted design of the whole grid, or that none is permitted.
+pub fn choose(plant: Plant, readings: Readings) -> Answer
+    ensures { λ r. ⌜ Chosen plant readings r ⌝ }
+    ensures columns { λ r. ⌜ TwoColumns plant readings r ⌝ }
+{
+    choosing::choose(plant, readings)
+}
+
+// The figures that explain a candidate, whatever the rules 7 to 10 say of it.
+pub fn explain(plant: Plant, readings: Readings, candidate: Candidate) -> Explanation
+    ensures { λ r. ⌜ r ≡ explain plant readings candidate ⌝ }
+{
+    explaining::explain(plant, readings, candidate)
+}
+
+// The listing of an answer on a lent page: written whole, or refused with 11 and the page as it was.
+pub fn write(answer: Answer, page: &mut [u8]) -> Written
+    ensures { λ r. ⌜ Writes answer (now (page .entry)) (now (page .exit)) r ⌝ }
+{
+    listing::write(answer, page)
+}
