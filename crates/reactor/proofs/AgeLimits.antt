@@ -50,9 +50,9 @@ unfolding sludgeAge
 sludge-age-most aerobic fraction h k = up-le (1000 * aerobic) (1000 - fraction) 20_000 (omega arith) .1 (omega arith)
 
 -- the product that the corrected age rounds
-pub corrected-product : (age f : ℕ) → age ≤ 20_000 → f ≤ 1_420_000 → age * f ≤ 28_400_000_000
-corrected-product age f h k = omega (arith, mul-le-mul h k)
+pub corrected-product : (age f : ℕ) → f ≤ 1_420_000 → age * f ≤ 1_420_000 * age
+corrected-product age f k = omega (arith, mul-le-mul-left age k)
 
-pub corrected-age-most : (age n : ℕ) → age ≤ 20_000 → Between 10 20 n → correctedAge age n ≤ 28_400
+pub corrected-age-most : (age n : ℕ) → Between 10 20 n → 100 * correctedAge age n ≤ 142 * age
 unfolding correctedAge
-corrected-age-most age n h b = omega (arith, corrected-product age (decay n) h (decay-most n b))
+corrected-age-most age n b = omega (arith, corrected-product age (decay n) (decay-most n b))

@@ -40,7 +40,7 @@ pub fn decay(temperature: u64) -> u64
 }
 
 // SF, safety factor, hundredths.
-pub(crate) fn safety_factor(load: u64) -> u64
+pub fn safety_factor(load: u64) -> u64
     requires { ⌜ load ≤ 100_000 ⌝ }
     ensures { λ r. ⌜ (r ≡ safetyFactor load) × (r ≤ 180) ⌝ }
 {
@@ -52,7 +52,7 @@ pub(crate) fn safety_factor(load: u64) -> u64
 }
 
 // a, aerobic sludge age, thousandths of a day.
-pub(crate) fn aerobic_age(factor: u64, temperature: u64) -> u64
+pub fn aerobic_age(factor: u64, temperature: u64) -> u64
     requires { ⌜ (factor ≤ 180) × Between 10 20 temperature ⌝ }
     ensures { λ r. ⌜ (r ≡ aerobicAge factor temperature) × (r ≤ 10_000) ⌝ }
 {
@@ -60,17 +60,17 @@ pub(crate) fn aerobic_age(factor: u64, temperature: u64) -> u64
 }
 
 // t, sludge age, thousandths of a day.
-pub(crate) fn sludge_age(aerobic: u64, fraction: u64) -> u64
+pub fn sludge_age(aerobic: u64, fraction: u64) -> u64
     requires { ⌜ (aerobic ≤ 10_000) × (fraction ≤ 500) ⌝ }
     ensures { λ r. ⌜ (r ≡ sludgeAge aerobic fraction) × (r ≤ 20_000) ⌝ }
 {
     rounding::round_up(1000 * aerobic, 1000 - fraction)
 }
 
-// U, sludge age corrected for temperature, thousandths of a day.
+// U, sludge age corrected for temperature, thousandths of a day: at most 1.42 times the age.
 pub fn corrected_age(age: u64, temperature: u64) -> u64
-    requires { ⌜ (age ≤ 20_000) × Between 10 20 temperature ⌝ }
-    ensures { λ r. ⌜ (r ≡ correctedAge age temperature) × (r ≤ 28_400) ⌝ }
+    requires { ⌜ (age ≤ 30_000) × Between 10 20 temperature ⌝ }
+    ensures { λ r. ⌜ (r ≡ correctedAge age temperature) × (100 * r ≤ 142 * age) ⌝ }
 {
     age * decay(temperature) / 1_000_000
 }

@@ -8,9 +8,14 @@ use rules::Plant;
 ghost use mathlib.Core.Path.{_≡_};
 ghost use Rattle.rules.specs.SludgeTanks.{reactorOf};
 ghost use Rattle.rules.specs.Ranges.{Between, PlantRanges, ConcentrationRanges, ReactorBounds};
+pub use age::aerobic_age;
 pub use age::corrected_age;
 pub use age::decay;
+pub use age::safety_factor;
+pub use age::sludge_age;
+pub use nitrate::capacity_uptake;
 pub use nitrate::covers;
+pub use sludge::biomass_decay;
 
 // t, W, D, K, S and M at a fraction of the grid.
 pub fn reactor(plant: Plant, concentrations: Concentrations, fraction: u32) -> rules::Reactor

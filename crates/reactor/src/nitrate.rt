@@ -55,8 +55,8 @@ fn risen_capacity(table: u64, temperature: u64) -> u64
 }
 
 // o, specific oxygen uptake for the capacity, g/kg.
-fn capacity_uptake(corrected: u64) -> u64
-    requires { ⌜ corrected ≤ 28_400 ⌝ }
+pub fn capacity_uptake(corrected: u64) -> u64
+    requires { ⌜ corrected ≤ 42_600 ⌝ }
     ensures { λ r. ⌜ (r ≡ capacityUptake corrected) × (r ≤ 1_443) ⌝ }
 {
     560 + 15000 * corrected / (100000 + 17 * corrected)

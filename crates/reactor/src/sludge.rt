@@ -6,8 +6,8 @@ ghost use Prim.Native.Nat.{_≤_};
 ghost use Rattle.rules.specs.SludgeTanks.{biomassDecay, carbonSludge, sludgePerPhosphorus, phosphorusSludge, sludgeMass};
 
 // e, decay of biomass per kg BOD.
-fn biomass_decay(corrected: u64) -> u64
-    requires { ⌜ corrected ≤ 28_400 ⌝ }
+pub fn biomass_decay(corrected: u64) -> u64
+    requires { ⌜ corrected ≤ 42_600 ⌝ }
     ensures { λ r. ⌜ (r ≡ biomassDecay corrected) × (r ≤ 600) ⌝ }
 {
     10200 * corrected / (100000 + 17 * corrected)

@@ -10,8 +10,8 @@ use Rattle.reactor.proofs.age.corrected_age.Tie as tie
 decay-requires : tie.Need-decay-requires
 decay-requires c κs = search needs
 
-product : (c : tie.After-decay) → c .before .args .age * c .decay .result ≤ 28_400_000_000
-product c = corrected-product (c .before .args .age) (c .decay .result) (search needs) (search needs)
+product : (c : tie.After-decay) → c .before .args .age * c .decay .result ≤ 1_420_000 * c .before .args .age
+product c = corrected-product (c .before .args .age) (c .decay .result) (search needs)
 
 mul-result : tie.Need-mul-result
 mul-result c = omega (arith, product c)

@@ -1,0 +1,3 @@
+-- Laws that the proofs of this crate cite, and a worked request.
+pub mod Checks
+pub mod CaseA

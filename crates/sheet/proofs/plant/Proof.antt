@@ -1,0 +1,12 @@
+-- `plant` meets its contract: the figures are Case A's, by computation. Assumes nothing.
+use mathlib.Core.Path.{refl}
+use Rattle.rules.specs.Cases.{caseA, plantWith}
+use Rattle.sheet.proofs.plant.Statement.{statement}
+use Rattle.sheet.proofs.plant.Tie as tie
+
+returns : tie.Need-returns
+unfolding caseA plantWith
+returns c = refl
+
+pub plant-spec : {M : Type 1} → statement M
+plant-spec = tie.close (tie.spec returns)

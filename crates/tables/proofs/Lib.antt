@@ -1,0 +1,3 @@
+-- Laws that the proofs of this crate cite, and why ten values differ.
+pub mod Counting
+pub mod Explained
