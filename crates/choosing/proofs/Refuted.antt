@@ -1,17 +1,14 @@
 -- Wrong choosers, each refuted on concrete data: its answer does not keep demand 3. Assumes nothing.
 use mathlib.Core.Path.{refl}
-use Prim.Native.Nat.{ℕ}
 use lib.Dec.{le→leb}
 use Rattle.rules.specs.Examining.{examine}
 use Rattle.rules.specs.Answers.{emptySheet}
 use Rattle.rules.specs.Choosing.{Chosen}
-use Rattle.rules.specs.Cases.{caseA, readingsA, candidate, f32}
+use Rattle.rules.specs.Cases.{variant, caseA, readingsA, candidate, f32}
 use Rattle.rules.specs.declared.Plant.{Plant}
 use Rattle.rules.specs.declared.Process.{Process}
-use Rattle.rules.specs.declared.Precipitant.{Precipitant}
 use Rattle.rules.specs.declared.TankFlow.{TankFlow}
 use Rattle.rules.specs.declared.Removal.{Removal}
-use Rattle.rules.specs.declared.PrimarySettling.{PrimarySettling}
 use Rattle.rules.specs.declared.Reading.{Reading}
 use Rattle.rules.specs.declared.Readings.{Readings}
 use Rattle.rules.specs.declared.Refusal.{Refusal}
@@ -50,48 +47,24 @@ pub sheet-of-zeros : Chosen caseA readingsA (Answer.Designed emptySheet) → ⊥
 unfolding steps
 sheet-of-zeros h = h .allowed
 
--- Case A's plant with another daily flow, site depth, tank and sludge removal
-unfoldable pub variant : ℕ → ℕ → TankFlow → Removal → Plant
-variant flow depth tank removal =
-    record {
-      load = 1_200;
-      flow = flow;
-      «wet_weather_flow» = 600;
-      «design_temperature» = 12;
-      «aeration_temperature» = 20;
-      «sludge_volume_index» = 100;
-      «nitrate_target» = 10_000;
-      «phosphorus_target» = 1_000;
-      «carbon_peak» = 120;
-      «nitrogen_peak» = 200;
-      «oxygen_saturation» = 9_000;
-      «site_surface» = 1_000;
-      «site_depth» = depth;
-      process = Process.PreAnoxic;
-      precipitant = Precipitant.Iron;
-      tank = tank;
-      removal = removal;
-      «primary_settling» = PrimarySettling.None;
-    }
-
 -- a flow so small that many designs have the same total
 unfoldable pub smallPlant : Plant
-smallPlant = variant 50 5_000 TankFlow.Horizontal Removal.Scraper
+smallPlant = variant 50 10_000 5_000 Process.PreAnoxic TankFlow.Horizontal Removal.Scraper
 
 unfoldable pub verticalPlant : Plant
-verticalPlant = variant 5_000 10_000 TankFlow.Vertical Removal.Suction
+verticalPlant = variant 5_000 10_000 10_000 Process.PreAnoxic TankFlow.Vertical Removal.Suction
 
 -- Equal totals to the larger fraction: 300, 30, 23 has the same total as 301, 30, 23.
 pub ties-to-larger-fraction : Chosen smallPlant readingsA (examine smallPlant readingsA (candidate 301 30 23)) → ⊥
-unfolding steps variant smallPlant
+unfolding steps smallPlant
 ties-to-larger-fraction h = le→leb 301 300 (h .rivals (candidate 300 30 23) tt tt .fraction refl)
 
 -- Equal totals to the shorter thickening time before the smaller return ratio: 300, 30, 23 against 300, 32, 20.
 pub ties-by-time-first : Chosen smallPlant readingsA (examine smallPlant readingsA (candidate 300 32 20)) → ⊥
-unfolding steps variant smallPlant
+unfolding steps smallPlant
 ties-by-time-first h = le→leb 32 30 (h .rivals (candidate 300 30 23) tt tt .ratio refl refl)
 
 -- Return ratios above 75 left out in vertical flow: 300, 75, 25 is the best of the others, 300, 93, 25 is smaller.
 pub vertical-held-to-75 : Chosen verticalPlant readingsA (examine verticalPlant readingsA (candidate 300 75 25)) → ⊥
-unfolding steps variant verticalPlant
+unfolding steps verticalPlant
 vertical-held-to-75 h = le→leb 5_766 5_641 (h .rivals (candidate 300 93 25) tt tt .total)

@@ -9,7 +9,7 @@ use Rattle.rules.specs.SludgeTanks.{reactorOf, reactorVolume}
 use Rattle.rules.specs.AerationSteps.{aerationUptake, carbonOxygen, savedOxygen, nitrificationOxygen, hourlyOxygen}
 use Rattle.rules.specs.Examining.{examine}
 use Rattle.rules.specs.Answers.{answerNumber, answerSheet}
-use Rattle.rules.specs.Cases.{plantWith, caseA, readingsA, concentrationsA, candidate}
+use Rattle.rules.specs.Cases.{variant, caseA, readingsA, concentrationsA, candidate}
 use Rattle.rules.specs.declared.Plant.{Plant}
 use Rattle.rules.specs.declared.Process.{Process}
 use Rattle.rules.specs.declared.Steps.{Steps}
@@ -38,27 +38,8 @@ sheetAt p f r h = answerSheet (answerAt p f r h)
 
 -- Case A's plant with another process and nitrate target
 unfoldable pub withProcess : Process → ℕ → Plant
-withProcess process target =
-    record {
-      load = caseA .load;
-      flow = caseA .flow;
-      «wet_weather_flow» = caseA .«wet_weather_flow»;
-      «design_temperature» = caseA .«design_temperature»;
-      «aeration_temperature» = caseA .«aeration_temperature»;
-      «sludge_volume_index» = caseA .«sludge_volume_index»;
-      «nitrate_target» = target;
-      «phosphorus_target» = caseA .«phosphorus_target»;
-      «carbon_peak» = caseA .«carbon_peak»;
-      «nitrogen_peak» = caseA .«nitrogen_peak»;
-      «oxygen_saturation» = caseA .«oxygen_saturation»;
-      «site_surface» = caseA .«site_surface»;
-      «site_depth» = caseA .«site_depth»;
-      process = process;
-      precipitant = caseA .precipitant;
-      tank = caseA .tank;
-      removal = caseA .removal;
-      «primary_settling» = caseA .«primary_settling»;
-    }
+withProcess process target = variant 5_000 target 5_000 process TankFlow.Horizontal Removal.Scraper
+
 
 abbrev simultaneous : Plant
 simultaneous = withProcess Process.Simultaneous 9_000
@@ -95,7 +76,7 @@ pub record Refuted : Type 0 where
   pub case-A-for-candidates : Differ (sheetAt caseA 300 50 20 .depth) 3_956 (sheetAt caseA 300 75 20 .depth)
   -- it does so for every plant that gets a sheet: suction has other solids
   pub case-A-for-plants :
-      Differ (sheetAt (plantWith TankFlow.Horizontal Removal.Suction) 300 75 20 .solids) 2_697 (sheetAt caseA 300 75 20 .solids)
+      Differ (sheetAt (variant 5_000 10_000 5_000 Process.PreAnoxic TankFlow.Horizontal Removal.Suction) 300 75 20 .solids) 2_697 (sheetAt caseA 300 75 20 .solids)
   -- it rounds o up for the capacity, as for the aeration: it gives a sheet where 7 is due
   pub uptake-up : Differ (answerNumber (answerAt simultaneous 452 75 20)) (numberBy capacityUptake 452) (numberBy aerationUptake 452)
   -- it rounds o down for the aeration, as for the capacity: its sheet has too little oxygen

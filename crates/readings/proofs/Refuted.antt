@@ -119,6 +119,6 @@ unfolding
     accept
     plantFigures
     plantInRange
-    Cases.plantWith
+    Cases.variant
     caseA
 order = record { in-turn = refl; all-twos-first = refl; ratio-last = refl; ratio-before-nitrogen = refl }

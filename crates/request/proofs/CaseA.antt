@@ -5,7 +5,7 @@ use mathlib.Core.List.{List, [], _∷_, _++_}
 use Prim.Native.Nat.{ℕ}
 use lib.Ieee.{ofBits, round}
 use lib.ListN.{set}
-use Rattle.rules.specs.Cases.{plantWith, caseA, f32, readingsWith, readingsA, candidate}
+use Rattle.rules.specs.Cases.{variant, caseA, f32, readingsWith, readingsA, candidate}
 use Rattle.request.specs.Kinds.{processOf, precipitantOf, tankFlowOf, removalOf, primarySettlingOf, readingOf}
 use Rattle.request.specs.Layout.{word, plantOf, readingsOf, candidateOf, kindsKnown, checked, decodeExamination}
 use Rattle.request.specs.declared.Fault.{Fault}
@@ -50,7 +50,7 @@ requestA =
 pub case-a :
     decodeExamination requestA
     ≡ DecodedExamination.Examination (record { plant = caseA; readings = readingsA; candidate = candidate 300 75 20 })
-unfolding requestA decodeExamination checked word kindsKnown plantOf readingsOf candidateOf processOf precipitantOf tankFlowOf removalOf primarySettlingOf readingOf ofBits caseA plantWith readingsA readingsWith f32 round candidate
+unfolding requestA decodeExamination checked word kindsKnown plantOf readingsOf candidateOf processOf precipitantOf tankFlowOf removalOf primarySettlingOf readingOf ofBits caseA variant readingsA readingsWith f32 round candidate
 case-a = refl
 
 -- malformed in more than one way, the first test decides

@@ -105,7 +105,8 @@ unfolding
     Listing.line
     Listing.sheetListing
     Listing.listing
-    Cases.plantWith
+    Cases.variant
+    Cases.hopperPlant
     Cases.caseA
     Cases.f32
     Cases.readingsWith

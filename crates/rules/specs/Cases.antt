@@ -21,32 +21,36 @@ use Rattle.rules.specs.declared.Readings.{Readings}
 use Rattle.rules.specs.declared.Concentrations.{Concentrations}
 use Rattle.rules.specs.declared.Candidate.{Candidate}
 
--- Case A's plant, with the tank's flow and the sludge removal open for case (8)
-unfoldable pub plantWith : TankFlow → Removal → Plant
-plantWith tank removal =
+-- Case A's plant with what other cases vary left open: Q, N3, the site's depth, process, tank and sludge removal
+unfoldable pub variant : ℕ → ℕ → ℕ → Process → TankFlow → Removal → Plant
+variant flow target depth process tank removal =
     record {
       load = 1_200;
-      flow = 5_000;
+      flow = flow;
       «wet_weather_flow» = 600;
       «design_temperature» = 12;
       «aeration_temperature» = 20;
       «sludge_volume_index» = 100;
-      «nitrate_target» = 10_000;
+      «nitrate_target» = target;
       «phosphorus_target» = 1_000;
       «carbon_peak» = 120;
       «nitrogen_peak» = 200;
       «oxygen_saturation» = 9_000;
       «site_surface» = 1_000;
-      «site_depth» = 5_000;
-      process = Process.PreAnoxic;
+      «site_depth» = depth;
+      process = process;
       precipitant = Precipitant.Iron;
       tank = tank;
       removal = removal;
-      «primary_settling» = PrimarySettling.None;
+      «primary_settling» = PrimarySettling.None
     }
 
 unfoldable pub caseA : Plant
-caseA = plantWith TankFlow.Horizontal Removal.Scraper
+caseA = variant 5_000 10_000 5_000 Process.PreAnoxic TankFlow.Horizontal Removal.Scraper
+
+-- the same with a vertical tank and hoppers, for case (8)
+unfoldable pub hopperPlant : Plant
+hopperPlant = variant 5_000 10_000 5_000 Process.PreAnoxic TankFlow.Vertical Removal.Hopper
 
 -- the f32 nearest to a / d
 unfoldable pub f32 : ℕ → ℕ → Float
@@ -76,7 +80,7 @@ candidate f r h = record { fraction = f; «return_ratio» = r; thickening = h }
 
 -- V for a vertical tank with hoppers at I 100, h 20 and the return ratio r
 unfoldable pub hopperVolume : ℕ → ℕ
-hopperVolume r = settlingOf (plantWith TankFlow.Vertical Removal.Hopper) r 20 .«sludge_volume»
+hopperVolume r = settlingOf hopperPlant r 20 .«sludge_volume»
 
 pub record Cases : Type 0 where
   -- Case A, examined at 300, 75, 20: its whole listing
@@ -104,6 +108,6 @@ pub record Cases : Type 0 where
   pub case-8-at-91 : hopperVolume 91 ≡ 600
   pub case-8-at-92 : hopperVolume 92 ≡ 604
   pub case-8-refusal :
-      answerNumber (examine (plantWith TankFlow.Vertical Removal.Hopper) readingsA (candidate 300 92 20)) ≡ 8
+      answerNumber (examine hopperPlant readingsA (candidate 300 92 20)) ≡ 8
   pub case-9-passes : acceptanceNumber (accept caseA (readingsWith (f32 440 1))) ≡ 0
   pub case-9-refusal : acceptanceNumber (accept caseA (readingsWith (f32 4_401 10))) ≡ 4

@@ -5,7 +5,7 @@ use Prim.Native.Nat.{ℕ, _+_, _-_, _*_, min, max}
 use native.Mathlib.Omega.{arith}
 use Rattle.rules.specs.Rounding.{down, up}
 use Rattle.rules.specs.SludgeTanks.{rootFrom, cubeRoot, thickeningRoot, bottomSludge, returnShare, returnSludge, mixedSolids, dilutedVolume, volumeLoading, largestOverflowRate, surfaceOverflowRate, settlingSurface, settlingDepth, settlingVolume, settlingOf, reactorSolids}
-use Rattle.rules.specs.Cases.{plantWith, caseA}
+use Rattle.rules.specs.Cases.{variant, caseA}
 use Rattle.rules.specs.declared.Process.{Process}
 use Rattle.rules.specs.declared.Steps.{Steps}
 use Rattle.rules.specs.declared.TankFlow.{TankFlow}
@@ -61,7 +61,7 @@ pub loading-kept :
     → ⊥
 unfolding
     caseA
-    plantWith
+    variant
     settlingOf
     rootFrom
     cubeRoot

@@ -1,11 +1,11 @@
 -- `plant` meets its contract: the figures are Case A's, by computation. Assumes nothing.
 use mathlib.Core.Path.{refl}
-use Rattle.rules.specs.Cases.{caseA, plantWith}
+use Rattle.rules.specs.Cases.{caseA, variant}
 use Rattle.sheet.proofs.plant.Statement.{statement}
 use Rattle.sheet.proofs.plant.Tie as tie
 
 returns : tie.Need-returns
-unfolding caseA plantWith
+unfolding caseA variant
 returns c = refl
 
 pub plant-spec : {M : Type 1} → statement M

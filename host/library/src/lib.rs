@@ -1,0 +1,15 @@
+//! The proved calls over their C interface, and the bytes of a request.
+
+mod calls;
+mod figures;
+mod request;
+
+pub use calls::{choose, examine, explain};
+pub use figures::{Figures, FIGURES_LENGTH};
+pub use request::{
+    Candidate, Precipitant, PrimarySettling, Process, Reading, Removal, Request, TankFlow,
+    CHOOSE_LENGTH, EXAMINE_LENGTH, EXPLAIN_LENGTH, VERSION,
+};
+
+/// A page of this length takes every listing.
+pub const PAGE_LENGTH: usize = 512;

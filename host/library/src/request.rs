@@ -1,0 +1,207 @@
+//! A request and its bytes: 32-bit numbers, little-endian, without padding.
+
+/// Version of the layout.
+pub const VERSION: u32 = 1;
+/// Bytes of a request to choose.
+pub const CHOOSE_LENGTH: usize = 116;
+/// Bytes of a request to examine.
+pub const EXAMINE_LENGTH: usize = 128;
+/// Bytes of a request to explain.
+pub const EXPLAIN_LENGTH: usize = 128;
+
+#[derive(Clone, Copy, Debug, Default, PartialEq, Eq)]
+pub enum Process {
+    #[default]
+    PreAnoxic = 0,
+    Simultaneous = 1,
+    Intermittent = 2,
+    StepFeedTwo = 3,
+    StepFeedThree = 4,
+}
+
+#[derive(Clone, Copy, Debug, Default, PartialEq, Eq)]
+pub enum Precipitant {
+    #[default]
+    Iron = 0,
+    Aluminium = 1,
+}
+
+#[derive(Clone, Copy, Debug, Default, PartialEq, Eq)]
+pub enum TankFlow {
+    #[default]
+    Horizontal = 0,
+    Vertical = 1,
+}
+
+#[derive(Clone, Copy, Debug, Default, PartialEq, Eq)]
+pub enum Removal {
+    #[default]
+    Scraper = 0,
+    Suction = 1,
+    Hopper = 2,
+}
+
+#[derive(Clone, Copy, Debug, Default, PartialEq, Eq)]
+pub enum PrimarySettling {
+    #[default]
+    None = 0,
+    Short = 1,
+    Long = 2,
+}
+
+/// A lab reading. The f32 of a value in mg/l is held by its bits, so that
+/// every pattern goes through unchanged.
+#[derive(Clone, Copy, Debug, PartialEq, Eq)]
+pub enum Reading {
+    /// Bits of the value
+    Measured(u32),
+    /// Bits of the limit
+    Below(u32),
+    /// Head count
+    Heads(u32),
+}
+
+impl Default for Reading {
+    fn default() -> Reading {
+        Reading::Measured(0)
+    }
+}
+
+impl Reading {
+    /// Its two words: the kind, then the bits or the head count.
+    fn words(self) -> [u32; 2] {
+        match self {
+            Reading::Measured(bits) => [0, bits],
+            Reading::Below(bits) => [1, bits],
+            Reading::Heads(count) => [2, count],
+        }
+    }
+}
+
+/// A plant with its site and readings. The default is zero in every word
+/// after the version.
+#[derive(Clone, Copy, Debug, Default, PartialEq, Eq)]
+pub struct Request {
+    /// kg/d
+    pub load: u32,
+    /// m3/d
+    pub flow: u32,
+    /// m3/h
+    pub wet_weather_flow: u32,
+    /// Degrees Celsius
+    pub design_temperature: u32,
+    /// Degrees Celsius
+    pub aeration_temperature: u32,
+    /// l/kg
+    pub sludge_volume_index: u32,
+    /// mg/m3
+    pub nitrate_target: u32,
+    /// mg/m3
+    pub phosphorus_target: u32,
+    /// Hundredths
+    pub carbon_peak: u32,
+    /// Hundredths
+    pub nitrogen_peak: u32,
+    /// mg/m3
+    pub oxygen_saturation: u32,
+    /// m2
+    pub site_surface: u32,
+    /// mm
+    pub site_depth: u32,
+    pub process: Process,
+    pub precipitant: Precipitant,
+    pub tank: TankFlow,
+    pub removal: Removal,
+    pub primary_settling: PrimarySettling,
+    pub bod: Reading,
+    pub cod: Reading,
+    pub solids: Reading,
+    pub nitrogen: Reading,
+    pub phosphorus: Reading,
+}
+
+/// A candidate of the grid, or any other three numbers.
+#[derive(Clone, Copy, Debug, PartialEq, Eq)]
+pub struct Candidate {
+    /// Denitrification fraction, thousandths
+    pub fraction: u32,
+    /// Hundredths
+    pub return_ratio: u32,
+    /// Thickening time, tenths of an hour
+    pub thickening: u32,
+}
+
+impl Request {
+    /// The bytes of a request to choose.
+    pub fn to_choose(&self) -> [u8; CHOOSE_LENGTH] {
+        let mut bytes = [0; CHOOSE_LENGTH];
+        put(&mut bytes[..76], &self.plant_words());
+        put(&mut bytes[76..], &self.reading_words());
+        bytes
+    }
+
+    /// The bytes of a request to examine or to explain a candidate.
+    pub fn to_examine(&self, candidate: Candidate) -> [u8; EXAMINE_LENGTH] {
+        let Candidate {
+            fraction,
+            return_ratio,
+            thickening,
+        } = candidate;
+        let mut bytes = [0; EXAMINE_LENGTH];
+        bytes[..CHOOSE_LENGTH].copy_from_slice(&self.to_choose());
+        put(
+            &mut bytes[CHOOSE_LENGTH..],
+            &[fraction, return_ratio, thickening],
+        );
+        bytes
+    }
+
+    /// Words 0 to 18: version, plant, site and kinds.
+    fn plant_words(&self) -> [u32; 19] {
+        [
+            VERSION,
+            self.load,
+            self.flow,
+            self.wet_weather_flow,
+            self.design_temperature,
+            self.aeration_temperature,
+            self.sludge_volume_index,
+            self.nitrate_target,
+            self.phosphorus_target,
+            self.carbon_peak,
+            self.nitrogen_peak,
+            self.oxygen_saturation,
+            self.site_surface,
+            self.site_depth,
+            self.process as u32,
+            self.precipitant as u32,
+            self.tank as u32,
+            self.removal as u32,
+            self.primary_settling as u32,
+        ]
+    }
+
+    /// Words 19 to 28: the readings in the paper's order.
+    fn reading_words(&self) -> [u32; 10] {
+        let mut words = [0; 10];
+        let readings = [
+            self.bod,
+            self.cod,
+            self.solids,
+            self.nitrogen,
+            self.phosphorus,
+        ];
+        for (pair, reading) in words.chunks_exact_mut(2).zip(readings) {
+            pair.copy_from_slice(&reading.words());
+        }
+        words
+    }
+}
+
+/// Writes the words over all the bytes, four bytes each.
+fn put(bytes: &mut [u8], words: &[u32]) {
+    assert_eq!(bytes.len(), 4 * words.len());
+    for (place, word) in bytes.chunks_exact_mut(4).zip(words) {
+        place.copy_from_slice(&word.to_le_bytes());
+    }
+}

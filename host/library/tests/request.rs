@@ -1,0 +1,100 @@
+//! The bytes of a request at their offsets.
+
+mod common;
+
+use common::{case_a, CASE_A_CANDIDATE};
+use library::{
+    Candidate, Precipitant, PrimarySettling, Process, Reading, Removal, Request, TankFlow,
+};
+
+fn word(bytes: &[u8], place: usize) -> u32 {
+    u32::from_le_bytes(bytes[4 * place..4 * place + 4].try_into().unwrap())
+}
+
+#[test]
+fn lengths() {
+    let request = case_a();
+    assert_eq!(request.to_choose().len(), 116);
+    assert_eq!(request.to_examine(CASE_A_CANDIDATE).len(), 128);
+    assert_eq!(library::CHOOSE_LENGTH, 116);
+    assert_eq!(library::EXAMINE_LENGTH, 128);
+    assert_eq!(library::EXPLAIN_LENGTH, 128);
+    assert_eq!(library::FIGURES_LENGTH, 48);
+}
+
+#[test]
+fn bytes_of_case_a() {
+    let bytes = case_a().to_examine(CASE_A_CANDIDATE);
+    assert_eq!(bytes[0..4], [1, 0, 0, 0]);
+    assert_eq!(bytes[4..8], [0xb0, 0x04, 0, 0], "load 1,200");
+    assert_eq!(bytes[8..12], [0x88, 0x13, 0, 0], "flow 5,000");
+    assert_eq!(bytes[52..56], [0x88, 0x13, 0, 0], "site depth 5,000");
+    assert_eq!(bytes[56..76], [0; 20], "every kind is its first");
+    assert_eq!(bytes[76..84], [0, 0, 0, 0, 0, 0, 0x48, 0x43], "BOD 200.0");
+    assert_eq!(bytes[112..116], [0, 0, 0, 0x41], "phosphorus 8.0");
+    assert_eq!(bytes[116..128], [0x2c, 1, 0, 0, 75, 0, 0, 0, 20, 0, 0, 0]);
+}
+
+#[test]
+fn a_request_to_choose_is_the_start_of_one_to_examine() {
+    let request = case_a();
+    assert_eq!(
+        request.to_choose()[..],
+        request.to_examine(CASE_A_CANDIDATE)[..116]
+    );
+}
+
+/// Every field holds the number of its word, so that a swap shows.
+#[test]
+fn each_field_has_its_word() {
+    let request = Request {
+        load: 1,
+        flow: 2,
+        wet_weather_flow: 3,
+        design_temperature: 4,
+        aeration_temperature: 5,
+        sludge_volume_index: 6,
+        nitrate_target: 7,
+        phosphorus_target: 8,
+        carbon_peak: 9,
+        nitrogen_peak: 10,
+        oxygen_saturation: 11,
+        site_surface: 12,
+        site_depth: 13,
+        bod: Reading::Heads(20),
+        cod: Reading::Heads(22),
+        solids: Reading::Heads(24),
+        nitrogen: Reading::Heads(26),
+        phosphorus: Reading::Heads(28),
+        ..Request::default()
+    };
+    let bytes = request.to_examine(Candidate {
+        fraction: 29,
+        return_ratio: 30,
+        thickening: 31,
+    });
+    for place in (1..=13).chain([20, 22, 24, 26, 28, 29, 30, 31]) {
+        assert_eq!(word(&bytes, place), place as u32, "word {place}");
+    }
+}
+
+#[test]
+fn kinds_have_their_codes() {
+    let request = Request {
+        process: Process::StepFeedThree,
+        precipitant: Precipitant::Aluminium,
+        tank: TankFlow::Vertical,
+        removal: Removal::Hopper,
+        primary_settling: PrimarySettling::Long,
+        bod: Reading::Measured(0x7fc0_0001),
+        cod: Reading::Below(0x8000_0000),
+        solids: Reading::Heads(u32::MAX),
+        ..Request::default()
+    };
+    let bytes = request.to_choose();
+    let words: Vec<u32> = (14..=24).map(|place| word(&bytes, place)).collect();
+    assert_eq!(
+        words,
+        [4, 1, 1, 2, 2, 0, 0x7fc0_0001, 1, 0x8000_0000, 2, u32::MAX]
+    );
+}

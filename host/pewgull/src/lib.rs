@@ -1,0 +1,10 @@
+//! The command-line tool: it parses, calls the library and prints.
+
+pub mod arguments;
+pub mod explanation;
+pub mod json;
+pub mod keys;
+pub mod plant_file;
+pub mod refusal;
+pub mod run;
+pub mod values;

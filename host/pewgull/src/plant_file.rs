@@ -1,0 +1,132 @@
+//! A plant file: one `key value` per line, `#` starts a comment.
+
+use crate::keys::{self, KEYS};
+use crate::values;
+use library::Request;
+
+/// Most faults that are told of one file.
+const TOLD: usize = 10;
+
+/// What is wrong with a line, and what was expected there.
+#[derive(Clone, Debug, PartialEq, Eq)]
+pub struct Fault {
+    pub line: usize,
+    pub what: String,
+}
+
+/// Reads the text of a plant file. The faults come in the order of the
+/// lines, missing keys last.
+pub fn parse(bytes: &[u8]) -> Result<Request, Vec<Fault>> {
+    let text = text(bytes).map_err(|fault| vec![fault])?;
+    let mut request = Request::default();
+    let mut first_lines = [None; KEYS.len()];
+    let mut faults = Vec::new();
+    let mut last = 1;
+    for (place, line) in text.lines().enumerate() {
+        last = place + 1;
+        if let Err(what) = read_line(line, last, &mut request, &mut first_lines) {
+            faults.push(Fault { line: last, what });
+        }
+    }
+    if let Some(what) = missing(&first_lines) {
+        faults.push(Fault { line: last, what });
+    }
+    if faults.is_empty() {
+        Ok(request)
+    } else {
+        Err(shortened(faults))
+    }
+}
+
+/// The file as text. A byte order mark at its start is left out.
+fn text(bytes: &[u8]) -> Result<&str, Fault> {
+    let end = match std::str::from_utf8(bytes) {
+        Ok(_) => bytes.len(),
+        Err(error) => error.valid_up_to(),
+    };
+    let end = bytes[..end].iter().position(|&b| b == 0).unwrap_or(end);
+    if end < bytes.len() {
+        return Err(Fault {
+            line: 1 + bytes[..end].iter().filter(|&&b| b == b'\n').count(),
+            what: "not a text file; expected a plant file in UTF-8".to_string(),
+        });
+    }
+    let text = std::str::from_utf8(bytes).unwrap_or_default();
+    Ok(text.strip_prefix('\u{feff}').unwrap_or(text))
+}
+
+/// Reads one line. `first_lines` holds for each key the line that has it.
+fn read_line(
+    line: &str,
+    number: usize,
+    request: &mut Request,
+    first_lines: &mut [Option<usize>; KEYS.len()],
+) -> Result<(), String> {
+    let content = line.split('#').next().unwrap_or_default();
+    let words: Vec<&str> = content.split_whitespace().collect();
+    let Some((name, value)) = words.split_first() else {
+        return Ok(());
+    };
+    let Some(place) = KEYS.iter().position(|key| key.name == *name) else {
+        return Err(unknown(name));
+    };
+    if let Some(first) = first_lines[place] {
+        return Err(format!(
+            "key '{name}' was given in line {first} already; expected each key once"
+        ));
+    }
+    first_lines[place] = Some(number);
+    let key = &KEYS[place];
+    key.put(request, value)
+        .map_err(|wrong| format!("{wrong}; expected {}", key.expected()))
+}
+
+/// A word that is no key, with the key that is written nearly so.
+fn unknown(name: &str) -> String {
+    let expected = match keys::similar(name) {
+        Some(key) => format!("'{key}', or another key of pewgull --help"),
+        None => format!("one of: {}", keys::names()),
+    };
+    format!("'{}' is no key; expected {expected}", values::shown(name))
+}
+
+/// The keys that no line has.
+fn missing(first_lines: &[Option<usize>; KEYS.len()]) -> Option<String> {
+    let absent: Vec<_> = KEYS
+        .iter()
+        .zip(first_lines)
+        .filter(|(_, line)| line.is_none())
+        .map(|(key, _)| key)
+        .collect();
+    match absent.as_slice() {
+        [] => None,
+        [key] => Some(format!(
+            "key '{}' is missing; expected {}",
+            key.name,
+            key.expected()
+        )),
+        several => {
+            let names: Vec<_> = several.iter().map(|key| key.name).collect();
+            Some(format!(
+                "{} keys are missing; expected also: {}",
+                several.len(),
+                names.join(" ")
+            ))
+        }
+    }
+}
+
+/// At most `TOLD` faults, and a last one that counts the rest.
+fn shortened(mut faults: Vec<Fault>) -> Vec<Fault> {
+    if faults.len() > TOLD {
+        let rest = faults.split_off(TOLD);
+        faults.push(Fault {
+            line: rest[0].line,
+            what: format!(
+                "{} more faults from here on; expected a plant file, see pewgull --help",
+                rest.len()
+            ),
+        });
+    }
+    faults
+}

@@ -1,0 +1,157 @@
+//! The values of a plant file and of the command line.
+
+use library::Reading;
+
+/// A whole number of 32 bits, in digits alone. The error says what is wrong.
+pub fn whole(word: &str) -> Result<u32, String> {
+    if word.is_empty() || !word.bytes().all(|byte| byte.is_ascii_digit()) {
+        return Err(format!("'{}' is not a whole number", shown(word)));
+    }
+    word.parse()
+        .map_err(|_| format!("'{}' is too large", shown(word)))
+}
+
+/// The bits of an f32: a decimal number, taken to the nearest f32, or
+/// `bits:` and eight hex digits.
+pub fn f32_bits(word: &str) -> Result<u32, String> {
+    if let Some(digits) = word.strip_prefix("bits:") {
+        let hex = digits.bytes().all(|byte| byte.is_ascii_hexdigit());
+        if digits.len() != 8 || !hex {
+            return Err(format!(
+                "'{}' does not have eight hex digits after 'bits:'",
+                shown(word)
+            ));
+        }
+        return u32::from_str_radix(digits, 16).map_err(|error| error.to_string());
+    }
+    word.parse::<f32>()
+        .map(f32::to_bits)
+        .map_err(|_| format!("'{}' is not a decimal number", shown(word)))
+}
+
+/// `measured X`, `below X` or `heads N`.
+pub fn reading(words: &[&str]) -> Result<Reading, String> {
+    match words {
+        ["measured", value] => f32_bits(value).map(Reading::Measured),
+        ["below", limit] => f32_bits(limit).map(Reading::Below),
+        ["heads", count] => whole(count).map(Reading::Heads),
+        ["measured" | "below" | "heads"] => Err("the number is missing".to_string()),
+        ["measured" | "below" | "heads", _, rest, ..] => {
+            Err(format!("'{}' is one word too many", shown(rest)))
+        }
+        [kind, ..] => Err(format!("'{}' is no kind of reading", shown(kind))),
+        [] => Err("the value is missing".to_string()),
+    }
+}
+
+/// A word of the file as it can stand in a message: short, and without
+/// control characters.
+pub fn shown(word: &str) -> String {
+    const LONGEST: usize = 40;
+    let mut text: String = word
+        .chars()
+        .take(LONGEST)
+        .map(|c| if c.is_control() { '?' } else { c })
+        .collect();
+    if word.chars().count() > LONGEST {
+        text.push_str("...");
+    }
+    text
+}
+
+#[cfg(test)]
+mod tests {
+    use super::*;
+
+    #[test]
+    fn whole_numbers() {
+        assert_eq!(whole("0"), Ok(0));
+        assert_eq!(whole("0012"), Ok(12));
+        assert_eq!(whole("4294967295"), Ok(u32::MAX));
+        for word in [
+            "", "-1", "+1", "1.0", "1,200", "1_200", "0x10", "1e3", "\u{0661}",
+        ] {
+            assert!(
+                whole(word).unwrap_err().contains("not a whole number"),
+                "{word}"
+            );
+        }
+        for word in ["4294967296", "99999999999999999999999"] {
+            assert!(whole(word).unwrap_err().contains("too large"), "{word}");
+        }
+    }
+
+    #[test]
+    fn decimals_go_to_the_nearest_f32() {
+        assert_eq!(f32_bits("200"), Ok(0x4348_0000));
+        assert_eq!(f32_bits("0.1"), Ok(0x3dcc_cccd));
+        assert_eq!(
+            f32_bits("16777217"),
+            Ok(0x4b80_0000),
+            "a tie goes to the even one"
+        );
+        assert_eq!(
+            f32_bits("16777217.0000001"),
+            Ok(0x4b80_0001),
+            "rounded only once"
+        );
+        assert_eq!(f32_bits("-0"), Ok(0x8000_0000));
+        assert_eq!(f32_bits("-3.5"), Ok(0xc060_0000));
+        assert_eq!(f32_bits("inf"), Ok(0x7f80_0000));
+        assert_eq!(f32_bits("-inf"), Ok(0xff80_0000));
+        assert!(f32::from_bits(f32_bits("nan").unwrap()).is_nan());
+    }
+
+    #[test]
+    fn bits_go_through_unchanged() {
+        assert_eq!(f32_bits("bits:43480000"), Ok(0x4348_0000));
+        assert_eq!(f32_bits("bits:7fA00001"), Ok(0x7fa0_0001));
+        for word in [
+            "bits:",
+            "bits:4348",
+            "bits:434800000",
+            "bits:4348000g",
+            "bits:+4348000",
+        ] {
+            assert!(
+                f32_bits(word).unwrap_err().contains("eight hex digits"),
+                "{word}"
+            );
+        }
+    }
+
+    #[test]
+    fn wrong_decimals() {
+        for word in ["", "x", "1,5", "1.5mg/l", "0x10", "--1", "43480000h"] {
+            assert!(
+                f32_bits(word).unwrap_err().contains("not a decimal number"),
+                "{word}"
+            );
+        }
+    }
+
+    #[test]
+    fn readings() {
+        let bits = 200f32.to_bits();
+        assert_eq!(reading(&["measured", "200"]), Ok(Reading::Measured(bits)));
+        assert_eq!(reading(&["below", "200"]), Ok(Reading::Below(bits)));
+        assert_eq!(reading(&["heads", "200"]), Ok(Reading::Heads(200)));
+        let wrong: [(&[&str], &str); 6] = [
+            (&[], "the value is missing"),
+            (&["200"], "no kind of reading"),
+            (&["measured"], "the number is missing"),
+            (&["measured", "200", "mg/l"], "'mg/l' is one word too many"),
+            (&["heads", "2.5"], "not a whole number"),
+            (&["heads", "4294967296"], "too large"),
+        ];
+        for (words, expected) in wrong {
+            assert!(reading(words).unwrap_err().contains(expected), "{words:?}");
+        }
+    }
+
+    #[test]
+    fn long_words_are_cut() {
+        assert_eq!(shown(&"x".repeat(41)), "x".repeat(40) + "...");
+        assert_eq!(shown("a\u{1b}b"), "a?b");
+    }
+}

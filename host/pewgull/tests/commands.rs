@@ -1,0 +1,330 @@
+//! The commands: what they print, say and end with.
+
+mod common;
+
+use common::{example, file, pewgull, with, CASE_A, CASE_A_LISTING};
+use std::fs::File;
+use std::process::{Command, Stdio};
+
+const CHOSEN: &str = "fraction 300\nreturn 73\nthickening 21\n";
+
+#[test]
+fn examine_prints_the_listing() {
+    let ran = pewgull(&["examine", &example("case-a.plant"), "300", "75", "20"]);
+    assert_eq!(
+        (ran.status, ran.out.as_str(), ran.err.as_str()),
+        (0, CASE_A_LISTING, "")
+    );
+}
+
+#[test]
+fn choose_prints_the_listing() {
+    let ran = pewgull(&["choose", &example("case-a.plant")]);
+    assert_eq!((ran.status, ran.err.as_str()), (0, ""));
+    assert!(ran.out.starts_with(CHOSEN) && ran.out.contains("\ntotal 5164\n"));
+    assert_eq!(ran.out.lines().count(), 15);
+}
+
+#[test]
+fn explain_prints_figures_beside_limits() {
+    let ran = pewgull(&["explain", &example("case-a.plant"), "300", "75", "20"]);
+    assert_eq!((ran.status, ran.err.as_str()), (0, ""));
+    let lines: Vec<Vec<&str>> = ran
+        .out
+        .lines()
+        .map(|l| l.split_whitespace().collect())
+        .collect();
+    let expected = [
+        "nitrate-to-remove 26000 at most 26000 mg/m3 kept",
+        "nitrate-removable 26000 at least 26000 mg/m3 kept",
+        "solids 3777 at least 1000 g/m3 kept",
+        "sludge-volume 378 at most 600 l/m3 kept",
+        "surface 454 at most 1000 m2 kept",
+        "depth 4537 at most 5000 mm kept",
+    ];
+    assert_eq!(
+        lines
+            .iter()
+            .map(|words| words.join(" "))
+            .collect::<Vec<_>>(),
+        expected
+    );
+}
+
+#[test]
+fn explain_tells_every_broken_limit() {
+    let text =
+        with("site-surface", "site-surface 453").replace("site-depth 5000", "site-depth 4536");
+    let ran = pewgull(&["explain", &file("broken.plant", text), "299", "75", "20"]);
+    assert_eq!(ran.status, 0);
+    for (label, verdict) in [
+        ("nitrate-to-remove", "refusal 7"),
+        ("surface", "refusal 9"),
+        ("depth", "refusal 10"),
+    ] {
+        let line = ran
+            .out
+            .lines()
+            .find(|line| line.starts_with(label))
+            .unwrap();
+        assert!(line.ends_with(verdict), "{line}");
+    }
+}
+
+/// A refusal by examine: its number, the key whose line is replaced, the
+/// line, the fraction, and words of the message.
+type Refused = (
+    u32,
+    &'static str,
+    &'static str,
+    &'static str,
+    &'static [&'static str],
+);
+
+const REFUSALS: [Refused; 10] = [
+    (
+        1,
+        "load",
+        "load 0",
+        "300",
+        &["plant data", "load 1..100000 kg/d"],
+    ),
+    (
+        2,
+        "bod",
+        "bod measured nan",
+        "300",
+        &["no number", "not finite"],
+    ),
+    (
+        2,
+        "bod",
+        "bod below -1",
+        "300",
+        &["no number", "below zero"],
+    ),
+    (
+        3,
+        "bod",
+        "bod measured 19",
+        "300",
+        &["reading range", "bod 20..2000"],
+    ),
+    (
+        3,
+        "bod",
+        "bod heads 0",
+        "300",
+        &["reading range", "heads 1..2000000"],
+    ),
+    (
+        4,
+        "cod",
+        "cod measured 440.1",
+        "300",
+        &["COD ratio", "2.2 times bod"],
+    ),
+    (
+        6,
+        "load",
+        "load 1200",
+        "501",
+        &["off grid", "F 200..500", "R 30..75"],
+    ),
+    (
+        7,
+        "load",
+        "load 1200",
+        "299",
+        &["nitrate", "26000 mg/m3", "25800 mg/m3"],
+    ),
+    (
+        9,
+        "site-surface",
+        "site-surface 453",
+        "300",
+        &["surface 454 m2", "site-surface 453 m2"],
+    ),
+    (
+        10,
+        "site-depth",
+        "site-depth 4536",
+        "300",
+        &["depth 4537 mm", "site-depth 4536 mm"],
+    ),
+];
+
+#[test]
+fn refusals_are_told_in_words() {
+    for (place, (number, key, line, fraction, words)) in REFUSALS.iter().enumerate() {
+        let path = file(&format!("refusal-{place}.plant"), with(key, line));
+        let ran = pewgull(&["examine", &path, fraction, "75", "20"]);
+        assert_eq!((ran.status, ran.out), (1, format!("refused {number}\n")));
+        let start = format!("pewgull: {path}: refused {number} (");
+        assert!(ran.err.starts_with(&start), "{}", ran.err);
+        assert!(
+            ran.err.lines().skip(1).all(|told| told.len() <= 80),
+            "{}",
+            ran.err
+        );
+        assert!(
+            words.iter().all(|word| ran.err.contains(word)),
+            "{}",
+            ran.err
+        );
+    }
+}
+
+#[test]
+fn both_sides_of_refusal_8_are_told() {
+    let few = with("sludge-volume-index", "sludge-volume-index 200").replace("scraper", "suction");
+    let ran = pewgull(&["examine", &file("few.plant", few), "300", "30", "20"]);
+    assert_eq!(ran.out, "refused 8\n");
+    assert!(
+        ran.err.contains("solids 726 g/m3, at least 1000 g/m3"),
+        "{}",
+        ran.err
+    );
+    let much = with("tank", "tank vertical").replace("scraper", "hopper");
+    let ran = pewgull(&["examine", &file("much.plant", much), "300", "92", "20"]);
+    assert_eq!(ran.out, "refused 8\n");
+    assert!(
+        ran.err.contains("volume 604 l/m3, at most 600 l/m3"),
+        "{}",
+        ran.err
+    );
+}
+
+#[test]
+fn no_design_counts_the_grid() {
+    let ran = pewgull(&["choose", &example("weak-sewage-no-design.plant")]);
+    assert_eq!((ran.status, ran.out.as_str()), (1, "refused 5\n"));
+    assert!(ran
+        .err
+        .contains("83,076 candidates in horizontal flow, and none is permitted"));
+    let vertical = with("tank", "tank vertical").replace("site-surface 1000", "site-surface 1");
+    let ran = pewgull(&["choose", &file("vertical.plant", vertical)]);
+    assert_eq!((ran.status, ran.out.as_str()), (1, "refused 5\n"));
+    assert!(
+        ran.err.contains("128,226 candidates in vertical flow"),
+        "{}",
+        ran.err
+    );
+}
+
+#[test]
+fn a_refused_explanation() {
+    let ran = pewgull(&["explain", &example("case-a.plant"), "300", "76", "20"]);
+    assert_eq!((ran.status, ran.out.as_str()), (1, "refused 6\n"));
+    assert!(ran.err.contains("off grid"), "{}", ran.err);
+}
+
+#[test]
+fn several_files_have_headings_and_the_largest_status() {
+    let (good, none) = (
+        example("case-a.plant"),
+        example("weak-sewage-no-design.plant"),
+    );
+    let ran = pewgull(&["choose", &good, &none]);
+    assert_eq!(ran.status, 1);
+    assert!(ran.out.starts_with(&format!("# {good}\n{CHOSEN}")));
+    assert!(ran.out.ends_with(&format!("\n# {none}\nrefused 5\n")));
+    let bad = file("several.plant", "load x\n");
+    let ran = pewgull(&["choose", &bad, &none, &good]);
+    assert_eq!(ran.status, 2);
+    assert!(ran
+        .out
+        .starts_with(&format!("# {bad}\n# {none}\nrefused 5\n# {good}\n{CHOSEN}")));
+    assert!(ran
+        .err
+        .contains(&format!("{bad}:1: 'x' is not a whole number")));
+    assert_eq!(pewgull(&["choose", &good, &good]).status, 0);
+}
+
+const USAGE_ERRORS: [(&str, &str); 10] = [
+    ("", "no command; expected choose, examine or explain"),
+    (
+        "chose",
+        "'chose' is no command; expected choose, examine or explain",
+    ),
+    ("choose", "expected choose FILE..."),
+    (
+        "choose --jsno F",
+        "'--jsno' is no option; expected --json or --help",
+    ),
+    (
+        "examine F",
+        "expected examine FILE F R H, one file and three numbers (words given: 1)",
+    ),
+    ("explain F 300 75", "expected explain FILE F R H"),
+    ("examine F 300 75 20 1", "expected examine FILE F R H"),
+    (
+        "examine F -300 75 20",
+        "fraction F: '-300' is not a whole number; expected",
+    ),
+    (
+        "examine F 300 0.75 20",
+        "return ratio R: '0.75' is not a whole number",
+    ),
+    (
+        "examine F 300 75 4294967296",
+        "thickening time H: '4294967296' is too large",
+    ),
+];
+
+#[test]
+fn usage_errors() {
+    let path = example("case-a.plant");
+    for (line, expected) in USAGE_ERRORS {
+        let words = line.split_whitespace();
+        let words: Vec<_> = words
+            .map(|word| if word == "F" { &path } else { word })
+            .collect();
+        let ran = pewgull(&words);
+        assert_eq!((ran.status, ran.out.as_str()), (2, ""), "{line}");
+        assert!(
+            ran.err.starts_with(&format!("pewgull: {expected}")),
+            "{}",
+            ran.err
+        );
+        assert!(ran.err.ends_with("; see pewgull --help\n"), "{}", ran.err);
+    }
+}
+
+#[test]
+fn help_fits_a_screen() {
+    for words in [&["--help"][..], &["-h"], &["choose", "--help"]] {
+        let ran = pewgull(words);
+        assert_eq!((ran.status, ran.err.as_str()), (0, ""));
+        assert!(ran.out.lines().count() <= 24);
+        assert!(ran.out.lines().all(|line| line.chars().count() <= 80));
+        assert!(ran
+            .out
+            .contains("Example: pewgull examine examples/case-a.plant 300 75 20"));
+    }
+}
+
+#[test]
+fn options_end_at_two_hyphens() {
+    let mut tool = Command::new(env!("CARGO_BIN_EXE_pewgull"));
+    file("-odd.plant", CASE_A);
+    tool.current_dir(env!("CARGO_TARGET_TMPDIR"));
+    let ran = common::ran(tool.args(["choose", "--", "-odd.plant"]).output().unwrap());
+    assert_eq!((ran.status, ran.err.as_str()), (0, ""));
+}
+
+#[test]
+fn output_that_cannot_be_written_is_an_error() {
+    let Ok(full) = File::options().write(true).open("/dev/full") else {
+        return;
+    };
+    let mut tool = Command::new(env!("CARGO_BIN_EXE_pewgull"));
+    tool.args(["choose", &example("case-a.plant")]);
+    let ran = common::ran(tool.stdout(full).stderr(Stdio::piped()).output().unwrap());
+    assert_eq!(ran.status, 2);
+    assert!(
+        ran.err.contains("cannot write to standard output"),
+        "{}",
+        ran.err
+    );
+}

@@ -1,0 +1,93 @@
+//! The files of examples/: each plant gets the answer that it shows, and the
+//! C program prints Case A.
+
+mod common;
+
+use common::{example, pewgull, ran, repository, CASE_A_LISTING};
+use std::fs;
+use std::path::Path;
+use std::process::Command;
+
+/// Each file, its answer's first lines, and its exit status.
+const ANSWERS: [(&str, &str, i32); 7] = [
+    (
+        "case-a.plant",
+        "fraction 300\nreturn 73\nthickening 21\n",
+        0,
+    ),
+    (
+        "city-step-feed-three.plant",
+        "fraction 340\nreturn 75\nthickening 25\n",
+        0,
+    ),
+    (
+        "food-works-step-feed-two.plant",
+        "fraction 200\nreturn 75\nthickening 25\n",
+        0,
+    ),
+    (
+        "resort-intermittent.plant",
+        "fraction 336\nreturn 73\nthickening 25\n",
+        0,
+    ),
+    (
+        "town-pre-anoxic.plant",
+        "fraction 320\nreturn 75\nthickening 25\n",
+        0,
+    ),
+    (
+        "village-simultaneous.plant",
+        "fraction 377\nreturn 69\nthickening 22\n",
+        0,
+    ),
+    ("weak-sewage-no-design.plant", "refused 5\n", 1),
+];
+
+#[test]
+fn plants() {
+    for (name, start, status) in ANSWERS {
+        let ran = pewgull(&["choose", &example(name)]);
+        assert_eq!(ran.status, status, "{name}: {}", ran.err);
+        assert!(ran.out.starts_with(start), "{name}: {}", ran.out);
+    }
+}
+
+#[test]
+fn every_plant_is_in_the_table_and_says_what_it_shows() {
+    let mut names = Vec::new();
+    for entry in fs::read_dir(repository().join("examples")).unwrap() {
+        let path = entry.unwrap().path();
+        if path
+            .extension()
+            .is_some_and(|extension| extension == "plant")
+        {
+            assert!(fs::read_to_string(&path).unwrap().starts_with("# Shows: "));
+            names.push(path.file_name().unwrap().to_str().unwrap().to_string());
+        }
+    }
+    names.sort();
+    assert_eq!(names, ANSWERS.map(|(name, _, _)| name));
+}
+
+#[test]
+fn c_program() {
+    let root = repository();
+    let program = Path::new(env!("CARGO_TARGET_TMPDIR")).join("case_a");
+    let built = Command::new("gcc")
+        .args(["-std=c99", "-Wall", "-Wextra", "-Wpedantic", "-Werror"])
+        .arg("-I")
+        .arg(root.join("include"))
+        .arg(root.join("examples/case_a.c"))
+        .arg(root.join("host/lib/libinterface.a"))
+        .arg("-o")
+        .arg(&program)
+        .output()
+        .unwrap();
+    assert!(
+        built.status.success(),
+        "{}",
+        String::from_utf8_lossy(&built.stderr)
+    );
+    let ran = ran(Command::new(&program).output().unwrap());
+    assert_eq!((ran.status, ran.out.as_str()), (0, CASE_A_LISTING));
+}

@@ -1,0 +1,257 @@
+//! Plant files: what is accepted, and what each error names.
+
+mod common;
+
+use common::{file, pewgull, with, CASE_A, CASE_A_LISTING};
+
+fn examine(path: &str) -> common::Ran {
+    pewgull(&["examine", path, "300", "75", "20"])
+}
+
+/// The file gets Case A's sheet.
+fn accepted(name: &str, contents: impl AsRef<[u8]>) {
+    let ran = examine(&file(name, contents));
+    assert_eq!((ran.status, ran.err.as_str()), (0, ""), "{name}");
+    assert_eq!(ran.out, CASE_A_LISTING, "{name}");
+}
+
+/// The file is an error: status 2, nothing printed, and a message that names
+/// the file, the line, what is wrong and what was expected.
+fn refused(name: &str, contents: impl AsRef<[u8]>, line: usize, wrong: &str, expected: &str) {
+    let path = file(name, contents);
+    let ran = examine(&path);
+    assert_eq!((ran.status, ran.out.as_str()), (2, ""), "{name}");
+    let start = format!("pewgull: {path}:{line}: {wrong}");
+    let found = ran.err.lines().find(|told| told.starts_with(&start));
+    let told = found.unwrap_or_else(|| panic!("{name}: no '{start}' in {}", ran.err));
+    assert!(told.contains(expected), "{name}: no '{expected}' in {told}");
+}
+
+#[test]
+fn accepted_forms() {
+    accepted("plain.plant", CASE_A);
+    accepted("crlf.plant", CASE_A.replace('\n', "\r\n"));
+    accepted("no-newline.plant", CASE_A.trim_end());
+    accepted("mark.plant", format!("\u{feff}{CASE_A}"));
+    accepted("tabs.plant", CASE_A.replace(' ', "\t \t"));
+    accepted("bits.plant", with("bod", "bod measured bits:43480000"));
+    accepted("decimal.plant", with("bod", "bod measured 200.000000001"));
+}
+
+#[test]
+fn comments_blank_lines_and_order() {
+    let mut lines: Vec<&str> = CASE_A.lines().collect();
+    lines.reverse();
+    accepted("reversed.plant", lines.join("\n\n"));
+    let commented = CASE_A.replace('\n', " # load 7\n#\n  # comment: \u{e4}\n");
+    accepted("commented.plant", commented);
+    accepted("close.plant", with("load", "load 1200# kg/d"));
+}
+
+#[test]
+fn missing_keys() {
+    let wrong = "key 'flow' is missing";
+    refused(
+        "missing.plant",
+        with("flow", ""),
+        23,
+        wrong,
+        "expected 'flow N'",
+    );
+    let two = with("flow", "").replace("cod measured 400\n", "");
+    let wrong = "2 keys are missing";
+    refused(
+        "missing-two.plant",
+        two,
+        22,
+        wrong,
+        "expected also: flow cod",
+    );
+}
+
+#[test]
+fn empty_files() {
+    let wrong = "23 keys are missing";
+    refused("empty.plant", "", 1, wrong, "load flow");
+    refused("blank.plant", "\n\n# nothing\n", 3, wrong, "load flow");
+}
+
+#[test]
+fn double_key() {
+    let twice = format!("{CASE_A}flow 5000\n");
+    let wrong = "key 'flow' was given in line 2 already";
+    refused("double.plant", twice, 24, wrong, "expected each key once");
+}
+
+#[test]
+fn unknown_keys() {
+    let wrong = "'flwo' is no key";
+    refused(
+        "unknown.plant",
+        with("flow", "flwo 5000"),
+        2,
+        wrong,
+        "expected 'flow', or another key",
+    );
+    let wrong = "'BOD' is no key";
+    refused(
+        "case.plant",
+        with("bod", "BOD measured 200"),
+        19,
+        wrong,
+        "expected 'bod', or another",
+    );
+    let wrong = "'load=1200' is no key";
+    refused(
+        "equals.plant",
+        with("load", "load=1200"),
+        1,
+        wrong,
+        "expected one of: load flow ",
+    );
+}
+
+#[test]
+fn bad_whole_numbers() {
+    let expected = "expected 'flow N', N a whole number from 0 to 4294967295 in m3/d";
+    for (place, value) in ["x", "-5", "+5", "5000.0", "5,000", "5e3", "0x10"]
+        .iter()
+        .enumerate()
+    {
+        let text = with("flow", &format!("flow {value}"));
+        let wrong = format!("'{value}' is not a whole number");
+        refused(&format!("bad-{place}.plant"), text, 2, &wrong, expected);
+    }
+    let wrong = "'4294967296' is too large";
+    refused(
+        "large.plant",
+        with("flow", "flow 4294967296"),
+        2,
+        wrong,
+        expected,
+    );
+    refused(
+        "none.plant",
+        with("flow", "flow"),
+        2,
+        "the value is missing",
+        expected,
+    );
+    let wrong = "'m3/d' is one word too many";
+    refused(
+        "unit.plant",
+        with("flow", "flow 5000 m3/d"),
+        2,
+        wrong,
+        expected,
+    );
+}
+
+#[test]
+fn bad_words() {
+    let expected = "expected 'process' and one of pre-anoxic, simultaneous, intermittent, \
+                    step-feed-two, step-feed-three";
+    let wrong = "'step-feed' is not known here";
+    refused(
+        "word.plant",
+        with("process", "process step-feed"),
+        14,
+        wrong,
+        expected,
+    );
+    let wrong = "the value is missing";
+    refused(
+        "no-word.plant",
+        with("process", "process # none"),
+        14,
+        wrong,
+        expected,
+    );
+}
+
+#[test]
+fn bad_readings() {
+    let expected = "expected 'bod measured X', 'bod below X'";
+    let cases = [
+        ("bod 200", "'200' is no kind of reading"),
+        ("bod", "the value is missing"),
+        ("bod measured", "the number is missing"),
+        ("bod measured 200,5", "'200,5' is not a decimal number"),
+        ("bod measured 200 mg/l", "'mg/l' is one word too many"),
+        (
+            "bod below bits:4348",
+            "'bits:4348' does not have eight hex digits",
+        ),
+        ("bod heads 12.5", "'12.5' is not a whole number"),
+        ("bod heads -1", "'-1' is not a whole number"),
+        ("bod heads 4294967296", "'4294967296' is too large"),
+    ];
+    for (place, (line, wrong)) in cases.iter().enumerate() {
+        refused(
+            &format!("reading-{place}.plant"),
+            with("bod", line),
+            19,
+            wrong,
+            expected,
+        );
+    }
+}
+
+#[test]
+fn binary_files() {
+    let wrong = "not a text file";
+    refused(
+        "zero.plant",
+        b"load 1200\nflow\0 5000\n",
+        2,
+        wrong,
+        "expected a plant file",
+    );
+    refused("latin.plant", b"# Kl\xe4ranlage\n", 1, wrong, "in UTF-8");
+    let wide: Vec<u8> = CASE_A.encode_utf16().flat_map(u16::to_le_bytes).collect();
+    refused("wide.plant", wide, 1, wrong, "in UTF-8");
+    let all: Vec<u8> = (0..=255).rev().collect();
+    refused("binary.plant", all, 1, wrong, "in UTF-8");
+}
+
+#[test]
+fn all_faults_are_told_up_to_ten() {
+    let path = file("many.plant", "nonsense\n".repeat(30));
+    let ran = examine(&path);
+    assert_eq!(ran.status, 2);
+    assert_eq!(ran.err.lines().count(), 11);
+    let last = format!("pewgull: {path}:11: 21 more faults from here on; expected a plant file");
+    assert!(
+        ran.err.lines().last().unwrap().starts_with(&last),
+        "{}",
+        ran.err
+    );
+}
+
+#[test]
+fn files_that_cannot_be_read() {
+    let folder = env!("CARGO_TARGET_TMPDIR");
+    let absent = format!("{folder}/no-such.plant");
+    for path in [absent.as_str(), folder] {
+        let ran = examine(path);
+        assert_eq!((ran.status, ran.out.as_str()), (2, ""));
+        assert!(
+            ran.err.starts_with(&format!("pewgull: {path}: ")),
+            "{}",
+            ran.err
+        );
+        let reason = if path == folder {
+            "this is a folder"
+        } else {
+            "no such file"
+        };
+        assert!(
+            ran.err
+                .ends_with(&format!(": {reason}; expected a plant file\n")),
+            "{}",
+            ran.err
+        );
+    }
+    let long = file("long.plant", "#".repeat((1 << 20) + 1));
+    assert!(examine(&long).err.contains("longer than 1 MiB"));
+}

@@ -1,0 +1,143 @@
+/*
+ * Pewgull: dimensioning of single-stage activated sludge plants with nitrogen
+ * removal. Three calls, for x86-64 and its C calling convention (System V).
+ *
+ * Each call takes the bytes of a request, writes on a page that the caller
+ * lends, stores the number of bytes written in *written, and gives a number.
+ * Later bytes of the page stay unchanged. No call allocates memory, keeps
+ * anything between calls, or reads or writes anything else. The archive needs
+ * memcpy and memset, and nothing more.
+ *
+ * What the caller sees to
+ *   - request points to request_length readable bytes; page points to
+ *     page_length writable bytes; written points to a uint64_t. None of the
+ *     three is a null pointer, also where a length is 0.
+ *   - The page and *written overlap neither the request nor each other.
+ *   - No alignment is needed for the request or the page.
+ *
+ * The request, version 1: 32-bit unsigned numbers, little-endian, no padding
+ *
+ *   word   bytes      what
+ *   0      0..3       version: 1
+ *   1      4..7       load: raw BOD5 load, kg/d
+ *   2      8..11      flow: daily flow, m3/d
+ *   3      12..15     wet weather flow, m3/h
+ *   4      16..19     design temperature, degrees Celsius
+ *   5      20..23     aeration temperature, degrees Celsius
+ *   6      24..27     sludge volume index, l/kg
+ *   7      28..31     nitrate target, mg/m3
+ *   8      32..35     phosphorus target, mg/m3
+ *   9      36..39     carbon peak factor, hundredths
+ *   10     40..43     nitrogen peak factor, hundredths
+ *   11     44..47     oxygen saturation, mg/m3
+ *   12     48..51     site: largest settling surface, m2
+ *   13     52..55     site: largest settling depth, mm
+ *   14     56..59     process: 0 pre-anoxic, 1 simultaneous, 2 intermittent,
+ *                     3 step-feed in two steps, 4 step-feed in three steps
+ *   15     60..63     precipitant: 0 iron, 1 aluminium
+ *   16     64..67     tank flow: 0 horizontal, 1 vertical
+ *   17     68..71     sludge removal: 0 scraper, 1 suction, 2 hopper
+ *   18     72..75     primary settling: 0 none, 1 short, 2 long
+ *   19,20  76..83     BOD reading: kind, then value
+ *   21,22  84..91     COD reading
+ *   23,24  92..99     solids reading
+ *   25,26  100..107   nitrogen reading
+ *   27,28  108..115   phosphorus reading
+ *                     A request to choose ends here.
+ *   29     116..119   fraction, thousandths
+ *   30     120..123   return ratio, hundredths
+ *   31     124..127   thickening time, tenths of an hour
+ *                     A request to examine or to explain ends here.
+ *
+ *   Kind of a reading and its value: 0 measured, the bits of a binary32 in
+ *   mg/l; 1 below a limit, the bits of the limit in mg/l; 2 head count.
+ */
+#ifndef PEWGULL_H
+#define PEWGULL_H
+
+#include <stddef.h>
+#include <stdint.h>
+
+#ifdef __cplusplus
+extern "C" {
+#endif
+
+/* Word 0 of a request. */
+#define PEWGULL_VERSION 1
+
+/* Lengths of a request, in bytes. */
+#define PEWGULL_CHOOSE_LENGTH 116
+#define PEWGULL_EXAMINE_LENGTH 128
+#define PEWGULL_EXPLAIN_LENGTH 128
+
+/* A page of this length takes every listing. */
+#define PEWGULL_PAGE_LENGTH 512
+
+/* Bytes that pewgull_explain writes, and the least length of its page. */
+#define PEWGULL_FIGURES_LENGTH 48
+
+/* Numbers that the calls give. */
+#define PEWGULL_SHEET 0          /* a sheet, or explaining figures */
+#define PEWGULL_PLANT_DATA 1     /* a plant or site figure outside its range */
+#define PEWGULL_NO_NUMBER 2      /* a reading not finite, or below zero */
+#define PEWGULL_READING_RANGE 3  /* a head count or a result outside its range */
+#define PEWGULL_COD_RATIO 4      /* 5 COD > 11 BOD */
+#define PEWGULL_NO_DESIGN 5      /* no candidate of the grid is permitted */
+#define PEWGULL_OFF_GRID 6       /* the candidate is not on the grid */
+#define PEWGULL_NITRATE 7        /* the nitrate is not covered */
+#define PEWGULL_SOLIDS 8         /* solids too low, or diluted sludge volume too large */
+#define PEWGULL_SURFACE 9        /* settling surface above the site's */
+#define PEWGULL_DEPTH 10         /* settling depth above the site's */
+#define PEWGULL_SHORT_PAGE 11    /* page too short: nothing written */
+#define PEWGULL_BAD_LENGTH 101   /* request of another length: nothing written */
+#define PEWGULL_BAD_VERSION 102  /* request of another version: nothing written */
+#define PEWGULL_BAD_KIND 103     /* an unknown kind in a request: nothing written */
+
+/*
+ * Examines the candidate of a request of PEWGULL_EXAMINE_LENGTH bytes.
+ * Gives 0 and writes the sheet's listing: fifteen lines, each a label, a
+ * space, a decimal number and a newline. Gives 1 to 4 or 6 to 10 and writes
+ * "refused ", the number and a newline. Gives 11 or 101 to 103, writes
+ * nothing on the page and stores 0 in *written. The listing has no
+ * terminating zero byte: its length is *written.
+ */
+uint32_t pewgull_examine(const uint8_t *request, size_t request_length,
+                         uint8_t *page, size_t page_length,
+                         uint64_t *written);
+
+/*
+ * Chooses for a request of PEWGULL_CHOOSE_LENGTH bytes the permitted
+ * candidate of least total volume; of several, the one of least fraction,
+ * then return ratio, then thickening time. Gives 0 and writes the sheet's
+ * listing, or gives 1 to 5 and writes the refusal; the rest as above.
+ */
+uint32_t pewgull_choose(const uint8_t *request, size_t request_length,
+                        uint8_t *page, size_t page_length,
+                        uint64_t *written);
+
+/*
+ * Gives the figures that the candidate of a request of
+ * PEWGULL_EXPLAIN_LENGTH bytes is judged by, whatever refusals 7 to 10 say
+ * of it. Gives 0 and writes PEWGULL_FIGURES_LENGTH bytes, six 64-bit
+ * unsigned numbers, little-endian:
+ *
+ *   bytes    what                                   held to
+ *   0..7     nitrate to be removed, mg/m3           at most the next (7)
+ *   8..15    nitrate the tank can remove, mg/m3
+ *   16..23   solids, g/m3                           at least 1,000 (8)
+ *   24..31   diluted sludge volume, l/m3            at most 600 (8)
+ *   32..39   settling surface, m2                   at most the site's (9)
+ *   40..47   settling depth, mm                     at most the site's (10)
+ *
+ * Gives 1 to 4 or 6 and writes 48 bytes of zeros. Gives 11 for a page of
+ * fewer than 48 bytes, or 101 to 103, and writes nothing.
+ */
+uint32_t pewgull_explain(const uint8_t *request, size_t request_length,
+                         uint8_t *page, size_t page_length,
+                         uint64_t *written);
+
+#ifdef __cplusplus
+}
+#endif
+
+#endif
