@@ -40,7 +40,6 @@ sheetAt p f r h = answerSheet (answerAt p f r h)
 unfoldable pub withProcess : Process → ℕ → Plant
 withProcess process target = variant 5_000 target 5_000 process TankFlow.Horizontal Removal.Scraper
 
-
 abbrev simultaneous : Plant
 simultaneous = withProcess Process.Simultaneous 9_000
 

@@ -1,2 +1,2 @@
--- Laws that the proofs of this crate cite.
 pub mod Outcomes
+pub mod Bytes8

@@ -1,14 +1,16 @@
 -- A call's outcome, by what writing the listing and what decoding the request gave. Assumes nothing.
-use mathlib.Core.Path.{_≡_, sym, _∙_, ap}
+use mathlib.Core.Path.{_≡_, refl, sym, _∙_, ap}
 use mathlib.Core.List.{List, _++_}
 use Prim.Native.Nat.{ℕ, _≤_, _<_}
 use native.Mathlib.Omega.{arith}
-use lib.ListN.{length, take, drop}
+use lib.ListN.{length}
+use lib.Dec.{T, leb, leb→le}
 use Rattle.rules.specs.Answers.{refusalNumber, answerNumber, writtenCount, explanationNumber, explanationFigures}
 use Rattle.rules.specs.Choosing.{Chosen}
 use Rattle.rules.specs.Listing.{listing, writing}
 use Rattle.rules.specs.declared.Refusal.{Refusal}
 use Rattle.rules.specs.declared.Answer.{Answer}
+use Rattle.rules.specs.declared.Explained.{Explained}
 use Rattle.rules.specs.declared.Explanation.{Explanation}
 use Rattle.rules.specs.declared.Written.{Written}
 use Rattle.request.specs.Layout.{decodeData, decodeExamination, faultNumber}
@@ -17,7 +19,8 @@ use Rattle.request.specs.declared.Data.{Data}
 use Rattle.request.specs.declared.Examination.{Examination}
 use Rattle.request.specs.declared.DecodedData.{DecodedData}
 use Rattle.request.specs.declared.DecodedExamination.{DecodedExamination}
-use Rattle.listing.specs.Pages.{Writes}
+use Rattle.listing.specs.Pages.{Writes, over}
+use Rattle.listing.proofs.Page.{after-piece, over-start}
 use Rattle.listing.proofs.Outcomes.{writing-fits, page-fits, writing-long, page-long}
 use Rattle.interface.specs.Calls.{Outcome, outcome, numberOf, answered, malformed, onExamination, Choosing, figureBytes, figuresNumber, figured}
 
@@ -86,16 +89,16 @@ module _ (bytes page : List ℕ) (d : DecodedData) (decoded : d ≡ decodeData b
 
 -- an explanation's figures on a page of at least 48 bytes
 pub figures-fit :
-    (e : Explanation) (page after bytes : List ℕ) (number : ℕ)
+    (e : Explanation) (f : Explained) (page after : List ℕ) (number : ℕ)
     → 48 ≤ length page
-    → bytes ≡ figureBytes (explanationFigures e)
-    → after ≡ take (length bytes) bytes ++ drop (length bytes) page
+    → f ≡ explanationFigures e
+    → after ≡ over page 0 (figureBytes f)
     → number ≡ explanationNumber e
     → outcome number after 48 ≡ figured e page
 unfolding figured figuresNumber writtenCount
-figures-fit e page after bytes number room b a n =
+figures-fit e f page after number room b a n =
     rw (writing-fits (figureBytes (explanationFigures e)) page room, page-fits (figureBytes (explanationFigures e)) page room)
-    (λ i. outcome (n i) ((a ∙ ap (λ (l : List ℕ). take (length l) l ++ drop (length l) page) b) i) 48)
+    (λ i. outcome (n i) ((a ∙ (ap (λ (g : Explained). over page 0 (figureBytes g)) b ∙ over-start page (figureBytes (explanationFigures e)))) i) 48)
 
 -- a shorter page
 pub figures-short :
@@ -105,3 +108,13 @@ unfolding figured figuresNumber writtenCount
 figures-short e page number long n =
     rw (writing-long (figureBytes (explanationFigures e)) page long, page-long (figureBytes (explanationFigures e)) page long)
     (λ i. outcome (n i) page 0)
+
+-- a piece more, right after what has been written from the page's start
+pub one-more :
+    (p q r : List ℕ) (at : ℕ) (x y : List ℕ) → at ≡ length x → length x ≤ length p → q ≡ over p 0 x → r ≡ over q at y
+    → r ≡ over p 0 (x ++ y)
+one-more p q r at x y n fits e w = w ∙ after-piece p q 0 at x y (x ++ y) (omega (arith, fits)) (omega (arith, n)) e refl
+
+-- a page of 48 bytes has room for fewer
+pub room : (p : List ℕ) (n : ℕ) → 48 ≤ length p → T (leb n 48) → n ≤ length p
+room p n h t = omega (arith, leb→le n 48 t)

@@ -1,5 +1,5 @@
 -- What a call of the interface gives back, whole, for every byte string and every page. Assumes nothing.
-use Prim.Native.Nat.{ℕ, _/_, _%_}
+use Prim.Native.Nat.{ℕ, zero, suc, _/_, _%_}
 use mathlib.Core.Path.{_≡_}
 use mathlib.Core.List.{List, [], _∷_, _++_}
 use Rattle.rules.specs.Answers.{refusalNumber, answerNumber, writtenCount, explanationNumber, explanationFigures}
@@ -61,28 +61,20 @@ ChoosingData (DecodedData.Data x) page o = (a : Answer) × Chosen (x .plant) (x 
 abbrev pub Choosing : List ℕ → List ℕ → Outcome → Type 0
 Choosing bytes page o = ChoosingData (decodeData bytes) page o
 
--- a number in eight bytes, the lowest first
-abbrev pub eightBytes : ℕ → List ℕ
-eightBytes n =
-    n % 256
-    ∷ n / 0x100 % 256
-    ∷ n / 0x1_0000 % 256
-    ∷ n / 0x100_0000 % 256
-    ∷ n / 0x1_0000_0000 % 256
-    ∷ n / 0x100_0000_0000 % 256
-    ∷ n / 0x1_0000_0000_0000 % 256
-    ∷ n / 0x100_0000_0000_0000 % 256
-    ∷ []
+-- a number's k lowest bytes, the lowest first
+abbrev pub lowBytes : ℕ → ℕ → List ℕ
+lowBytes zero n = []
+lowBytes (suc k) n = n % 256 ∷ lowBytes k (n / 256)
 
--- the explaining figures in order
+-- the explaining figures in order, eight bytes each
 abbrev pub figureBytes : Explained → List ℕ
 figureBytes e =
-    eightBytes (e .denitrified)
-    ++ eightBytes (e .removable)
-    ++ eightBytes (e .solids)
-    ++ eightBytes (e .«sludge_volume»)
-    ++ eightBytes (e .surface)
-    ++ eightBytes (e .depth)
+    lowBytes 8 (e .denitrified)
+    ++ lowBytes 8 (e .removable)
+    ++ lowBytes 8 (e .solids)
+    ++ lowBytes 8 (e .«sludge_volume»)
+    ++ lowBytes 8 (e .surface)
+    ++ lowBytes 8 (e .depth)
 
 -- the explanation's own number where its figures fit, 0 if it is not refused; else 11
 unfoldable pub figuresNumber : Explanation → Written → ℕ

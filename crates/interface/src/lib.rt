@@ -8,9 +8,11 @@ use rules::Explanation;
 use rules::Refusal;
 use rules::Written;
 ghost use mathlib.Core.Path.{_≡_};
-ghost use Prim.Native.Nat.{_≤_};
+ghost use Prim.Native.Nat.{_+_, _≤_};
+ghost use lib.ListN.{length};
 ghost use Rattle.rules.specs.Answers.{refusalNumber, answerNumber, explanationNumber, explanationFigures};
-ghost use Rattle.interface.specs.Calls.{outcome, answered, examined, Choosing, figureBytes, figured, explained};
+ghost use Rattle.interface.specs.Calls.{outcome, answered, examined, Choosing, lowBytes, figureBytes, figured, explained};
+ghost use Rattle.listing.specs.Pages.{over};
 
 // The paper's number of a refusal.
 fn refusal_number(refusal: Refusal) -> u32
@@ -110,66 +112,29 @@ fn explanation_figures(explanation: Explanation) -> Explained
     }
 }
 
-// Six figures, each in eight bytes, the lowest first.
-fn figure_bytes(figures: Explained) -> [u8; 48]
-    ensures { λ r. ⌜ r ≡ figureBytes figures ⌝ }
+// Writes a number in eight bytes, the lowest first, at an index of the page.
+fn put_eight(page: &mut [u8], at: usize, n: u64)
+    requires { ⌜ at + 8 ≤ length (now page) ⌝ }
+    ensures { λ _. ⌜ now (page .exit) ≡ over (now (page .entry)) at (lowBytes 8 n) ⌝ }
 {
-    let a = figures.denitrified;
-    let b = figures.removable;
-    let c = figures.solids;
-    let d = figures.sludge_volume;
-    let e = figures.surface;
-    let f = figures.depth;
-    [
-        (a % 256) as u8,
-        (a / 0x100 % 256) as u8,
-        (a / 0x1_0000 % 256) as u8,
-        (a / 0x100_0000 % 256) as u8,
-        (a / 0x1_0000_0000 % 256) as u8,
-        (a / 0x100_0000_0000 % 256) as u8,
-        (a / 0x1_0000_0000_0000 % 256) as u8,
-        (a / 0x100_0000_0000_0000 % 256) as u8,
-        (b % 256) as u8,
-        (b / 0x100 % 256) as u8,
-        (b / 0x1_0000 % 256) as u8,
-        (b / 0x100_0000 % 256) as u8,
-        (b / 0x1_0000_0000 % 256) as u8,
-        (b / 0x100_0000_0000 % 256) as u8,
-        (b / 0x1_0000_0000_0000 % 256) as u8,
-        (b / 0x100_0000_0000_0000 % 256) as u8,
-        (c % 256) as u8,
-        (c / 0x100 % 256) as u8,
-        (c / 0x1_0000 % 256) as u8,
-        (c / 0x100_0000 % 256) as u8,
-        (c / 0x1_0000_0000 % 256) as u8,
-        (c / 0x100_0000_0000 % 256) as u8,
-        (c / 0x1_0000_0000_0000 % 256) as u8,
-        (c / 0x100_0000_0000_0000 % 256) as u8,
-        (d % 256) as u8,
-        (d / 0x100 % 256) as u8,
-        (d / 0x1_0000 % 256) as u8,
-        (d / 0x100_0000 % 256) as u8,
-        (d / 0x1_0000_0000 % 256) as u8,
-        (d / 0x100_0000_0000 % 256) as u8,
-        (d / 0x1_0000_0000_0000 % 256) as u8,
-        (d / 0x100_0000_0000_0000 % 256) as u8,
-        (e % 256) as u8,
-        (e / 0x100 % 256) as u8,
-        (e / 0x1_0000 % 256) as u8,
-        (e / 0x100_0000 % 256) as u8,
-        (e / 0x1_0000_0000 % 256) as u8,
-        (e / 0x100_0000_0000 % 256) as u8,
-        (e / 0x1_0000_0000_0000 % 256) as u8,
-        (e / 0x100_0000_0000_0000 % 256) as u8,
-        (f % 256) as u8,
-        (f / 0x100 % 256) as u8,
-        (f / 0x1_0000 % 256) as u8,
-        (f / 0x100_0000 % 256) as u8,
-        (f / 0x1_0000_0000 % 256) as u8,
-        (f / 0x100_0000_0000 % 256) as u8,
-        (f / 0x1_0000_0000_0000 % 256) as u8,
-        (f / 0x100_0000_0000_0000 % 256) as u8,
-    ]
+    let mut rest = n;
+    'byte: for k in 0..8 {
+        page[at + k] = (rest % 256) as u8;
+        rest /= 256;
+    }
+}
+
+// Writes six figures from the page's start.
+fn put_six(page: &mut [u8], figures: Explained)
+    requires { ⌜ 48 ≤ length (now page) ⌝ }
+    ensures { λ _. ⌜ now (page .exit) ≡ over (now (page .entry)) 0 (figureBytes figures) ⌝ }
+{
+    put_eight(page, 0, figures.denitrified);
+    put_eight(page, 8, figures.removable);
+    put_eight(page, 16, figures.solids);
+    put_eight(page, 24, figures.sludge_volume);
+    put_eight(page, 32, figures.surface);
+    put_eight(page, 40, figures.depth);
 }
 
 // Writes the figures of an explanation on the page, and gives its number. A page under 48 bytes is answered by 11, and
@@ -181,8 +146,7 @@ fn put_figures(explanation: Explanation, page: &mut [u8], written: &mut u64) -> 
         *written = 0;
         return refusal_number(Refusal::ShortPage);
     }
-    let figures = figure_bytes(explanation_figures(explanation));
-    bytes::copy(&figures, page);
+    put_six(page, explanation_figures(explanation));
     *written = 48;
     explanation_number(explanation)
 }

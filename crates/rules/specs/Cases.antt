@@ -42,7 +42,7 @@ variant flow target depth process tank removal =
       precipitant = Precipitant.Iron;
       tank = tank;
       removal = removal;
-      «primary_settling» = PrimarySettling.None
+      «primary_settling» = PrimarySettling.None;
     }
 
 unfoldable pub caseA : Plant

@@ -1,7 +1,5 @@
 -- `put_figures` meets its contract: the figures are on the page, or it is too short for them. Assumes nothing.
 use borrow.Author.Needs.{needs}
-use mathlib.Core.Path.{_∙_, ap}
-use Rattle.interface.specs.Calls.{figureBytes}
 use Rattle.interface.proofs.Outcomes.{figures-fit, figures-short}
 use Rattle.interface.proofs.put_figures.Statement.{statement}
 use Rattle.interface.proofs.put_figures.Tie as tie
@@ -15,14 +13,8 @@ returns c = figures-short (c .before .before .before .args .explanation) _ _ (c 
 explanation-figures-requires : tie.Need-explanation-figures-requires
 explanation-figures-requires c κs = search needs
 
-figure-bytes-requires : tie.Need-figure-bytes-requires
-figure-bytes-requires c κs = search needs
-
-slice-aggregate-copy : tie.Need-slice-aggregate-copy
-slice-aggregate-copy c = search needs
-
-copy-requires : tie.Need-copy-requires
-copy-requires c κs = search needs
+put-six-requires : tie.Need-put-six-requires
+put-six-requires c κs = search needs
 
 explanation-number-requires : tie.Need-explanation-number-requires
 explanation-number-requires c κs = search needs
@@ -32,14 +24,13 @@ same-length c = search needs
 
 returns-2 : tie.Need-returns-2
 returns-2 c =
-    let copied = c .before .before .before in
-    let filled = copied .before .before .before in
-    let figures = filled .before in
-    let start = figures .before .before .before in
-    figures-fit (start .args .explanation) (start .args .page .now) _ (filled .figure-bytes .result) _
-    (figures .before .if1 .left)
-    (filled .figure-bytes .ensures ∙ ap figureBytes (figures .explanation-figures .ensures))
-    (copied .copy .ensures .1)
+    let written = c .before .before .before in
+    let figures = written .before in
+    let start = c .before .before .before .before .before .before .before .before in
+    figures-fit (start .args .explanation) (figures .explanation-figures .result) (start .args .page .now) _ _
+    (figures .before .before .if1 .left)
+    (figures .explanation-figures .ensures)
+    (written .put-six .ensures)
     (c .explanation-number .ensures)
 
 pub put-figures-spec : {M : Type 1} → statement M
@@ -49,9 +40,7 @@ put-figures-spec =
     refusal-number-requires
     returns
     explanation-figures-requires
-    figure-bytes-requires
-    slice-aggregate-copy
-    copy-requires
+    put-six-requires
     explanation-number-requires
     same-length
     returns-2)

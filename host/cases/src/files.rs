@@ -1,0 +1,73 @@
+//! The two stored files, and comparing them with what is made now.
+
+use crate::collection::{Case, Operation};
+use crate::model::Outcome;
+
+/// Largest size of the stored requests.
+pub const MOST_BYTES: usize = 100_000;
+
+/// A case as a record of stdin: operation, page length, request.
+pub fn record(case: &Case) -> Vec<u8> {
+    let operation: u32 = match case.operation {
+        Operation::Examine => 0,
+        Operation::Choose => 1,
+    };
+    let mut bytes = operation.to_le_bytes().to_vec();
+    bytes.extend(case.page_length.to_le_bytes());
+    bytes.extend(case.request_bytes());
+    bytes
+}
+
+/// A case's part of stdout: number, bytes written, newline, the bytes.
+pub fn answer(outcome: &Outcome) -> Vec<u8> {
+    let mut bytes = format!("{} {}\n", outcome.number, outcome.written.len()).into_bytes();
+    bytes.extend(&outcome.written);
+    bytes
+}
+
+/// Whether the stored bytes start with these, and the bytes after them.
+fn strip<'a>(stored: &'a [u8], wanted: &[u8]) -> Option<&'a [u8]> {
+    stored.strip_prefix(wanted)
+}
+
+fn hex(bytes: &[u8]) -> String {
+    bytes.iter().map(|byte| format!("{byte:02x}")).collect()
+}
+
+/// The first difference between the stored files and what is made now.
+pub fn first_difference(
+    cases: &[Case],
+    outcomes: &[Outcome],
+    mut requests: &[u8],
+    mut answers: &[u8],
+) -> Option<String> {
+    for (number, (case, outcome)) in cases.iter().zip(outcomes).enumerate() {
+        let made = record(case);
+        let name = format!("case {number} ('{}')", case.kind);
+        match strip(requests, &made) {
+            Some(rest) => requests = rest,
+            None => {
+                let stored = &requests[..made.len().min(requests.len())];
+                let (stored, made) = (hex(stored), hex(&made));
+                return Some(format!("stdin, {name}\n  stored {stored}\n  made   {made}"));
+            }
+        }
+        let made = answer(outcome);
+        match strip(answers, &made) {
+            Some(rest) => answers = rest,
+            None => {
+                let stored = &answers[..made.len().min(answers.len())];
+                let stored = String::from_utf8_lossy(stored).into_owned();
+                let made = String::from_utf8_lossy(&made).into_owned();
+                return Some(format!("stdout, {name}\nstored:\n{stored}\nmade:\n{made}"));
+            }
+        }
+    }
+    if !requests.is_empty() || !answers.is_empty() {
+        let (more_in, more_out) = (requests.len(), answers.len());
+        return Some(format!(
+            "after the last case: {more_in} more bytes in stdin, {more_out} in stdout"
+        ));
+    }
+    None
+}

@@ -1,0 +1,46 @@
+//! The groups of stored cases.
+
+mod choices;
+mod degrees;
+mod edges;
+mod kinds;
+mod nitrate;
+mod pages;
+mod readings;
+mod settling;
+
+use crate::collection::Collection;
+use crate::random::Random;
+
+/// Seed of every search.
+const SEED: u64 = 131;
+
+/// Every stored case, always the same.
+pub fn all() -> Collection {
+    let mut cases = Collection::default();
+    let mut random = Random::new(SEED);
+    edges::worked(&mut cases);
+    edges::plant_ranges(&mut cases);
+    edges::grid(&mut cases);
+    edges::malformed(&mut cases);
+    readings::ranges(&mut cases, &mut random);
+    readings::head_counts(&mut cases);
+    readings::boundaries(&mut cases);
+    readings::odd_numbers(&mut cases);
+    readings::rounding(&mut cases, &mut random);
+    readings::cod_ratio(&mut cases);
+    readings::order(&mut cases);
+    degrees::growth_steps(&mut cases);
+    degrees::decay_steps(&mut cases, &mut random);
+    nitrate::cover(&mut cases, &mut random);
+    settling::tanks(&mut cases, &mut random);
+    settling::site(&mut cases, &mut random);
+    choices::ties(&mut cases, &mut random);
+    choices::heavier_first(&mut cases, &mut random);
+    choices::no_design(&mut cases, &mut random);
+    choices::site_limits(&mut cases, &mut random);
+    kinds::combinations(&mut cases);
+    pages::lengths(&mut cases);
+    choices::plain(&mut cases, &mut random);
+    cases
+}

@@ -1,0 +1,144 @@
+//! Requests moved on to the lines where two answers meet.
+
+use crate::figures;
+use crate::plants;
+use crate::random::Random;
+use crate::request::*;
+use crate::tanks::OnLines;
+use reference::nitrogen::*;
+use reference::reading::{result_range, Determinand, ORDER};
+use reference::{accept, Process};
+
+/// The accepted concentrations of a request, if none of 1 to 4 is due.
+pub fn accepted(request: &Request) -> Option<[u64; 5]> {
+    let decoded = request.decoded().ok()?;
+    accept(&decoded.plant, &decoded.readings).ok()
+}
+
+/// Nitrogen changed so that the nitrate to be removed is what the candidate
+/// can remove and so much over.
+pub fn on_cover(request: Request, over: u64) -> Option<Request> {
+    let bod = accepted(&request)?[0];
+    let (reactor, _) = figures::of_request(&request)?;
+    let target = u64::from(request.get(NITRATE_TARGET));
+    let nitrogen = reactor.removable + over + target + 2_000 + 4 * bod / 100;
+    if nitrogen > 500_000 {
+        return None;
+    }
+    Some(request.with_measured(NITROGEN, nitrogen))
+}
+
+/// The site's surface set to the candidate's, less so much.
+pub fn on_surface(request: Request, less: u32) -> Option<Request> {
+    let (_, settling) = figures::of_request(&request)?;
+    let surface = (settling.surface as u32).checked_sub(less)?;
+    let inside = (1..=100_000).contains(&surface);
+    inside.then(|| request.with(SITE_SURFACE, surface))
+}
+
+/// The site's depth set to the candidate's, less so much.
+pub fn on_depth(request: Request, less: u32) -> Option<Request> {
+    let (_, settling) = figures::of_request(&request)?;
+    let depth = (settling.depth as u32).checked_sub(less)?;
+    let inside = (3_000..=10_000).contains(&depth);
+    inside.then(|| request.with(SITE_DEPTH, depth))
+}
+
+/// COD set to the largest allowed beside the BOD, and so much over.
+pub fn on_cod_ratio(request: Request, over: u64) -> Option<Request> {
+    let bod = accepted(&request)?[0];
+    let cod = 11 * bod / 5 + over;
+    (cod <= 4_400_000).then(|| request.with_measured(COD, cod))
+}
+
+/// One reading set to an edge of its range, or one thousandth past it.
+pub fn on_reading_edge(random: &mut Random, request: Request) -> Request {
+    let place = random.within(0, 4) as usize;
+    let (least, most) = result_range(ORDER[place]);
+    let edges = [least.max(1) - 1, least, most, most + 1];
+    let value = random.pick(&edges) as u64;
+    if random.one_in(2) {
+        request.with_measured(READINGS[place], value)
+    } else {
+        request.with_reading(READINGS[place], BELOW, below_bits(value))
+    }
+}
+
+/// Inhabitants and a flow that come to just this concentration.
+pub fn heads_for(
+    random: &mut Random,
+    determinand: Determinand,
+    thousandths: u64,
+) -> Option<(u32, u32)> {
+    use reference::reading::{from_heads, load_per_head};
+    let load = load_per_head(determinand, reference::PrimarySettling::None);
+    for _ in 0..10_000 {
+        let flow = random.within(1, 200_000);
+        let heads = (thousandths * u64::from(flow) / (load * 100)) as u32;
+        if from_heads(heads, load, flow) == Ok(u128::from(thousandths)) {
+            return Some((heads, flow));
+        }
+    }
+    None
+}
+
+fn capacity_of(request: &Request) -> u64 {
+    figures::of_request(request).map_or(0, |(reactor, _)| reactor.capacity)
+}
+
+/// Whether the capacity is lower at the fraction before the candidate's.
+pub fn at_capacity_step(request: &Request) -> bool {
+    let fraction = request.get(FRACTION);
+    fraction > 200 && capacity_of(&request.with(FRACTION, fraction - 1)) < capacity_of(request)
+}
+
+/// Table 3 with one rounding for interpolation and rise.
+fn capacity_rounded_once(fraction: u64, temperature: u64) -> u64 {
+    let hundredfold = match fraction {
+        ..=300 => 11_000 + 20 * (fraction - 200),
+        301..=400 => 13_000 + 10 * (fraction - 300),
+        _ => 14_000 + 10 * (fraction - 400),
+    };
+    hundredfold * (100 + temperature.saturating_sub(12)) / 10_000
+}
+
+/// Whether another rounding of the capacity's parts gives another capacity.
+pub fn capacity_by_rounding(request: &Request) -> bool {
+    let Ok(decoded) = request.decoded() else {
+        return false;
+    };
+    let Some((reactor, _)) = figures::of_request(request) else {
+        return false;
+    };
+    let fraction = u64::from(decoded.candidate.fraction);
+    let temperature = u64::from(decoded.plant.design_temperature);
+    let other = match decoded.plant.process {
+        Process::PreAnoxic | Process::StepFeed(_) => capacity_rounded_once(fraction, temperature),
+        Process::Simultaneous | Process::Intermittent => {
+            capacity_by_uptake(fraction, uptake_for_capacity(reactor.weighted_age) + 1)
+        }
+    };
+    other != reactor.capacity
+}
+
+/// A random plant on one of the lines, or one past it.
+pub fn random_on_line(random: &mut Random, tanks: &OnLines) -> Request {
+    let mut plant = if random.one_in(2) {
+        plants::plausible(random)
+    } else {
+        plants::anything(random)
+    };
+    if random.one_in(2) {
+        let (tank, flow) = tanks.any(random);
+        plant = tank.put_in(plant, flow);
+    }
+    let past = random.within(0, 1);
+    let moved = match random.within(0, 5) {
+        0 | 1 => on_cover(plant, u64::from(past)),
+        2 => on_surface(plant, past),
+        3 => on_depth(plant, past),
+        4 => on_cod_ratio(plant, u64::from(past)),
+        _ => Some(on_reading_edge(random, plant)),
+    };
+    moved.unwrap_or(plant)
+}

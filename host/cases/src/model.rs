@@ -1,0 +1,74 @@
+//! What each call of the interface answers, by the reference.
+
+use crate::figures;
+use crate::request::{decode, CHOOSE_LENGTH, EXAMINE_LENGTH};
+use reference::{listing, Answer};
+
+pub const SHORT_PAGE: u32 = reference::refusal::SHORT_PAGE as u32;
+/// Bytes that explaining writes.
+pub const EXPLAIN_PAGE: usize = 48;
+
+/// The call's number and the bytes it writes at the start of the page.
+#[derive(Clone, Debug, PartialEq, Eq)]
+pub struct Outcome {
+    pub number: u32,
+    pub written: Vec<u8>,
+}
+
+fn nothing(number: u32) -> Outcome {
+    let written = Vec::new();
+    Outcome { number, written }
+}
+
+fn listed(answer: &Answer, page_length: usize) -> Outcome {
+    let written = listing(answer);
+    if written.len() > page_length {
+        return nothing(SHORT_PAGE);
+    }
+    let number = u32::from(answer.number());
+    Outcome { number, written }
+}
+
+pub fn examine(request: &[u8], page_length: usize) -> Outcome {
+    match decode(request, EXAMINE_LENGTH) {
+        Err(fault) => nothing(fault),
+        Ok(data) => {
+            let answer = reference::examine(&data.plant, &data.readings, data.candidate);
+            listed(&answer, page_length)
+        }
+    }
+}
+
+pub fn choose(request: &[u8], page_length: usize) -> Outcome {
+    match decode(request, CHOOSE_LENGTH) {
+        Err(fault) => nothing(fault),
+        Ok(data) => listed(&reference::choose(&data.plant, &data.readings), page_length),
+    }
+}
+
+/// Six 64-bit numbers, or a refusal and zeros.
+pub fn explain(request: &[u8], page_length: usize) -> Outcome {
+    let data = match decode(request, EXAMINE_LENGTH) {
+        Err(fault) => return nothing(fault),
+        Ok(data) => data,
+    };
+    if page_length < EXPLAIN_PAGE {
+        return nothing(SHORT_PAGE);
+    }
+    let (number, figures) = match figures::of_decoded(&data) {
+        Err(number) => (u32::from(number), [0; 6]),
+        Ok((reactor, settling)) => (
+            0,
+            [
+                reactor.to_denitrify,
+                reactor.removable,
+                settling.solids,
+                settling.diluted_volume,
+                settling.surface,
+                settling.depth,
+            ],
+        ),
+    };
+    let written = figures.iter().flat_map(|f| f.to_le_bytes()).collect();
+    Outcome { number, written }
+}

@@ -1,0 +1,238 @@
+//! A request as 32 words, its bytes, and decoding for the reference.
+
+use reference::*;
+
+pub const VERSION: usize = 0;
+pub const LOAD: usize = 1;
+pub const FLOW: usize = 2;
+pub const WET_WEATHER_FLOW: usize = 3;
+pub const DESIGN_TEMPERATURE: usize = 4;
+pub const AERATION_TEMPERATURE: usize = 5;
+pub const SLUDGE_VOLUME_INDEX: usize = 6;
+pub const NITRATE_TARGET: usize = 7;
+pub const PHOSPHORUS_TARGET: usize = 8;
+pub const CARBON_PEAK: usize = 9;
+pub const NITROGEN_PEAK: usize = 10;
+pub const OXYGEN_SATURATION: usize = 11;
+pub const SITE_SURFACE: usize = 12;
+pub const SITE_DEPTH: usize = 13;
+pub const PROCESS: usize = 14;
+pub const PRECIPITANT: usize = 15;
+pub const TANK_FLOW: usize = 16;
+pub const REMOVAL: usize = 17;
+pub const PRIMARY_SETTLING: usize = 18;
+/// A reading takes two words: its kind, then its content.
+pub const BOD: usize = 19;
+pub const COD: usize = 21;
+pub const SOLIDS: usize = 23;
+pub const NITROGEN: usize = 25;
+pub const PHOSPHORUS: usize = 27;
+pub const FRACTION: usize = 29;
+pub const RETURN_RATIO: usize = 30;
+pub const THICKENING: usize = 31;
+
+/// The readings in their order.
+pub const READINGS: [usize; 5] = [BOD, COD, SOLIDS, NITROGEN, PHOSPHORUS];
+
+/// Kinds of a reading.
+pub const MEASURED: u32 = 0;
+pub const BELOW: u32 = 1;
+pub const HEADS: u32 = 2;
+
+/// Range of each plant and site figure.
+pub const PLANT_RANGES: [(usize, u32, u32); 13] = [
+    (LOAD, 1, 100_000),
+    (FLOW, 1, 200_000),
+    (WET_WEATHER_FLOW, 1, 50_000),
+    (DESIGN_TEMPERATURE, 10, 20),
+    (AERATION_TEMPERATURE, 10, 20),
+    (SLUDGE_VOLUME_INDEX, 50, 200),
+    (NITRATE_TARGET, 1_000, 50_000),
+    (PHOSPHORUS_TARGET, 0, 100_000),
+    (CARBON_PEAK, 100, 300),
+    (NITROGEN_PEAK, 100, 300),
+    (OXYGEN_SATURATION, 6_000, 15_000),
+    (SITE_SURFACE, 1, 100_000),
+    (SITE_DEPTH, 3_000, 10_000),
+];
+
+/// Words that hold a kind, and the last kind of each.
+pub const KIND_WORDS: [(usize, u32); 10] = [
+    (PROCESS, 4),
+    (PRECIPITANT, 1),
+    (TANK_FLOW, 1),
+    (REMOVAL, 2),
+    (PRIMARY_SETTLING, 2),
+    (BOD, 2),
+    (COD, 2),
+    (SOLIDS, 2),
+    (NITROGEN, 2),
+    (PHOSPHORUS, 2),
+];
+
+/// Bytes of a request to examine or to explain.
+pub const EXAMINE_LENGTH: usize = 128;
+/// Bytes of a request to choose.
+pub const CHOOSE_LENGTH: usize = 116;
+
+/// Numbers of malformed requests.
+pub const WRONG_LENGTH: u32 = 101;
+pub const WRONG_VERSION: u32 = 102;
+pub const UNKNOWN_KIND: u32 = 103;
+
+#[derive(Clone, Copy, Debug, PartialEq, Eq)]
+pub struct Request(pub [u32; 32]);
+
+impl Request {
+    pub fn get(&self, place: usize) -> u32 {
+        self.0[place]
+    }
+
+    pub fn with(mut self, place: usize, value: u32) -> Self {
+        self.0[place] = value;
+        self
+    }
+
+    pub fn with_reading(self, place: usize, kind: u32, content: u32) -> Self {
+        self.with(place, kind).with(place + 1, content)
+    }
+
+    /// A reading measured as whole thousandths of mg/l.
+    pub fn with_measured(self, place: usize, thousandths: u64) -> Self {
+        self.with_reading(place, MEASURED, measured_bits(thousandths))
+    }
+
+    pub fn with_candidate(self, fraction: u32, return_ratio: u32, thickening: u32) -> Self {
+        self.with(FRACTION, fraction)
+            .with(RETURN_RATIO, return_ratio)
+            .with(THICKENING, thickening)
+    }
+
+    /// The request to examine or to explain.
+    pub fn examine_bytes(&self) -> Vec<u8> {
+        self.0.iter().flat_map(|word| word.to_le_bytes()).collect()
+    }
+
+    /// The request to choose: the same without the candidate.
+    pub fn choose_bytes(&self) -> Vec<u8> {
+        let mut bytes = self.examine_bytes();
+        bytes.truncate(CHOOSE_LENGTH);
+        bytes
+    }
+
+    pub fn decoded(&self) -> Result<Decoded, u32> {
+        decode(&self.examine_bytes(), EXAMINE_LENGTH)
+    }
+}
+
+/// Bits of the f32 nearest to a number of thousandths.
+pub fn measured_bits(thousandths: u64) -> u32 {
+    let value = (thousandths as f64 / 1000.0) as f32;
+    let result = reference::reading::measured(value);
+    assert_eq!(result, Ok(u128::from(thousandths)));
+    value.to_bits()
+}
+
+/// Bits of a limit whose half is a number of thousandths.
+pub fn below_bits(thousandths: u64) -> u32 {
+    let limit = (thousandths as f64 / 500.0) as f32;
+    let result = reference::reading::below(limit);
+    assert_eq!(result, Ok(u128::from(thousandths)));
+    limit.to_bits()
+}
+
+/// What the reference is given.
+pub struct Decoded {
+    pub plant: Plant,
+    pub readings: [Reading; 5],
+    pub candidate: Candidate,
+}
+
+fn process(kind: u32) -> Option<Process> {
+    match kind {
+        0 => Some(Process::PreAnoxic),
+        1 => Some(Process::Simultaneous),
+        2 => Some(Process::Intermittent),
+        3 => Some(Process::StepFeed(Steps::Two)),
+        4 => Some(Process::StepFeed(Steps::Three)),
+        _ => None,
+    }
+}
+
+fn choice<T: Copy>(kinds: &[T], kind: u32) -> Option<T> {
+    kinds.get(kind as usize).copied()
+}
+
+fn plant(words: &[u32]) -> Option<Plant> {
+    use PrimarySettling::{Long, None as NoSettling, Short};
+    Some(Plant {
+        bod_load: words[LOAD],
+        daily_flow: words[FLOW],
+        wet_weather_flow: words[WET_WEATHER_FLOW],
+        design_temperature: words[DESIGN_TEMPERATURE],
+        aeration_temperature: words[AERATION_TEMPERATURE],
+        sludge_volume_index: words[SLUDGE_VOLUME_INDEX],
+        nitrate_target: words[NITRATE_TARGET],
+        phosphorus_target: words[PHOSPHORUS_TARGET],
+        carbon_peak_factor: words[CARBON_PEAK],
+        nitrogen_peak_factor: words[NITROGEN_PEAK],
+        oxygen_saturation: words[OXYGEN_SATURATION],
+        site_surface: words[SITE_SURFACE],
+        site_depth: words[SITE_DEPTH],
+        process: process(words[PROCESS])?,
+        precipitant: choice(
+            &[Precipitant::Iron, Precipitant::Aluminium],
+            words[PRECIPITANT],
+        )?,
+        tank_flow: choice(
+            &[TankFlow::Horizontal, TankFlow::Vertical],
+            words[TANK_FLOW],
+        )?,
+        removal: choice(
+            &[Removal::Scraper, Removal::Suction, Removal::Hopper],
+            words[REMOVAL],
+        )?,
+        primary_settling: choice(&[NoSettling, Short, Long], words[PRIMARY_SETTLING])?,
+    })
+}
+
+fn reading(kind: u32, content: u32) -> Option<Reading> {
+    match kind {
+        MEASURED => Some(Reading::Measured(f32::from_bits(content))),
+        BELOW => Some(Reading::Below(f32::from_bits(content))),
+        HEADS => Some(Reading::Heads(content)),
+        _ => None,
+    }
+}
+
+fn readings(words: &[u32]) -> Option<[Reading; 5]> {
+    let mut all = [Reading::Heads(0); 5];
+    for (reading_out, place) in all.iter_mut().zip(READINGS) {
+        *reading_out = reading(words[place], words[place + 1])?;
+    }
+    Some(all)
+}
+
+/// A request of the given length, or the number of its fault. The candidate
+/// of a request to choose is zeros.
+pub fn decode(bytes: &[u8], length: usize) -> Result<Decoded, u32> {
+    if bytes.len() != length {
+        return Err(WRONG_LENGTH);
+    }
+    let mut words = [0; 32];
+    for (word, four) in words.iter_mut().zip(bytes.chunks_exact(4)) {
+        *word = u32::from_le_bytes([four[0], four[1], four[2], four[3]]);
+    }
+    if words[VERSION] != 1 {
+        return Err(WRONG_VERSION);
+    }
+    Ok(Decoded {
+        plant: plant(&words).ok_or(UNKNOWN_KIND)?,
+        readings: readings(&words).ok_or(UNKNOWN_KIND)?,
+        candidate: Candidate {
+            fraction: words[FRACTION],
+            return_ratio: words[RETURN_RATIO],
+            thickening: words[THICKENING],
+        },
+    })
+}

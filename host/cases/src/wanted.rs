@@ -1,0 +1,164 @@
+//! The kinds that must be there, how many of each, and which answers each
+//! may have.
+
+use crate::collection::{Case, Operation};
+use crate::model::Outcome;
+use std::collections::BTreeMap;
+
+/// Kind, least count, allowed numbers (none listed: any).
+type Wanted = (&'static str, usize, &'static [u32]);
+
+const PASSED: &[u32] = &[0, 7, 8, 9, 10];
+
+const WANTED: [Wanted; 73] = [
+    ("worked case", 13, &[0, 4, 7, 8, 10]),
+    ("plant edge", 24, &[0]),
+    ("site depth edge", 2, &[0, 10]),
+    ("plant past edge", 28, &[1]),
+    ("plant past edge, choose", 7, &[1]),
+    ("grid edge", 7, &[0, 8]),
+    ("off grid", 13, &[6]),
+    ("wrong version", 6, &[102]),
+    ("unknown kind", 15, &[103]),
+    ("reading edge", 26, PASSED),
+    ("reading past edge", 20, &[3]),
+    ("head count edge", 8, PASSED),
+    ("head count past edge", 11, &[3]),
+    ("one inhabitant", 1, PASSED),
+    ("last f32 inside", 12, PASSED),
+    ("first f32 outside", 12, &[3]),
+    ("no number", 15, &[2]),
+    ("zero or tiny", 16, &[0]),
+    ("minus zero out of range", 2, &[3]),
+    ("huge", 9, &[3]),
+    ("tie", 20, &[0]),
+    ("0x44f0d693", 4, PASSED),
+    ("float product", 6, &[0]),
+    ("rounded after halving", 6, &[0]),
+    ("COD ratio met", 5, PASSED),
+    ("COD ratio broken", 5, &[4]),
+    ("two refusals", 17, &[1, 2, 3, 4, 6, 7, 9]),
+    ("growth at each degree", 3, &[0]),
+    ("decay at each degree", 4, &[0]),
+    ("cover met, pre-anoxic", 3, &[0]),
+    ("cover missed, pre-anoxic", 6, &[7]),
+    ("cover met, simultaneous", 3, &[0]),
+    ("cover missed, simultaneous", 6, &[7]),
+    ("cover met, intermittent", 3, &[0]),
+    ("cover missed, intermittent", 6, &[7]),
+    ("cover met, step-feed two", 3, &[0]),
+    ("cover missed, step-feed two", 6, &[7]),
+    ("cover met, step-feed three", 3, &[0]),
+    ("cover missed, step-feed three", 6, &[7]),
+    ("cover met, choose", 15, &[0]),
+    ("cover by rounding, met", 9, &[0]),
+    ("cover by rounding, missed", 9, &[7]),
+    ("solids at 1,000", 4, &[0]),
+    ("solids below 1,000", 4, &[8]),
+    ("volume at 600", 4, &[0]),
+    ("volume above 600", 4, &[8]),
+    ("overflow rate held", 4, &[0]),
+    ("overflow rate below its limit", 4, &[0]),
+    ("zones just below 3,000", 4, &[0]),
+    ("zones of 3,000", 2, &[0]),
+    ("zones just above 3,000", 4, &[0]),
+    ("3,000 on a site of 3,000", 3, &[0]),
+    ("above 3,000 on a site of 3,000", 2, &[10]),
+    ("surface at the site's", 4, &[0]),
+    ("surface above the site's", 4, &[9]),
+    ("depth at the site's", 4, &[0]),
+    ("depth above the site's", 3, &[10]),
+    ("tie across f", 3, &[0]),
+    ("tie across r", 3, &[0]),
+    ("tie across h", 3, &[0]),
+    ("tie: larger f with smaller r", 3, &[0]),
+    ("tie: larger f with smaller h", 3, &[0]),
+    ("tie: larger r with smaller h", 3, &[0]),
+    ("best f not the least", 3, &[0]),
+    ("best f not the least, 200", 3, &[0]),
+    ("no design: nitrate", 3, &[5]),
+    ("no design: surface", 3, &[5]),
+    ("no design: depth", 3, &[5]),
+    ("no design: solids and site", 3, &[5]),
+    ("site just holds the choice", 4, &[0]),
+    ("site one below the choice", 8, &[0, 5]),
+    ("combination", 180, PASSED),
+    ("combination, choose", 24, &[0, 5]),
+];
+
+const WANTED_PAGES: [Wanted; 5] = [
+    ("exact page", 8, &[0, 1, 5, 9, 10]),
+    ("page one byte short", 8, &[11]),
+    ("empty page", 8, &[11]),
+    ("malformed, empty page", 2, &[102, 103]),
+    ("random", 8, &[]),
+];
+
+/// Numbers that each operation must give at least once.
+const EXAMINE_NUMBERS: [u32; 13] = [0, 1, 2, 3, 4, 6, 7, 8, 9, 10, 11, 102, 103];
+const CHOOSE_NUMBERS: [u32; 9] = [0, 1, 2, 3, 4, 5, 11, 102, 103];
+
+/// Counts by kind and by operation and number.
+pub struct Summary {
+    pub kinds: BTreeMap<&'static str, BTreeMap<u32, usize>>,
+    pub numbers: [BTreeMap<u32, usize>; 2],
+}
+
+pub fn summary(cases: &[Case], outcomes: &[Outcome]) -> Summary {
+    let mut kinds: BTreeMap<&'static str, BTreeMap<u32, usize>> = BTreeMap::new();
+    let mut numbers = [BTreeMap::new(), BTreeMap::new()];
+    for (case, outcome) in cases.iter().zip(outcomes) {
+        let kind = kinds.entry(case.kind).or_default();
+        *kind.entry(outcome.number).or_default() += 1;
+        let place = usize::from(case.operation == Operation::Choose);
+        *numbers[place].entry(outcome.number).or_default() += 1;
+    }
+    Summary { kinds, numbers }
+}
+
+fn counts(of: &BTreeMap<u32, usize>) -> String {
+    let parts: Vec<String> = of.iter().map(|(n, c)| format!("{n}: {c}")).collect();
+    parts.join(", ")
+}
+
+impl Summary {
+    /// What is missing or has an answer that its kind must not have.
+    pub fn faults(&self) -> Vec<String> {
+        let mut faults = Vec::new();
+        let empty = BTreeMap::new();
+        for (kind, least, allowed) in WANTED.iter().chain(&WANTED_PAGES) {
+            let found = self.kinds.get(kind).unwrap_or(&empty);
+            let count: usize = found.values().sum();
+            if count < *least {
+                faults.push(format!("kind '{kind}': {count} of {least}"));
+            }
+            let stray = |number: &&u32| !allowed.is_empty() && !allowed.contains(number);
+            for number in found.keys().filter(stray) {
+                faults.push(format!("kind '{kind}': unexpected answer {number}"));
+            }
+        }
+        let wanted = [&EXAMINE_NUMBERS[..], &CHOOSE_NUMBERS[..]];
+        for (place, name) in ["examine", "choose"].into_iter().enumerate() {
+            for number in wanted[place] {
+                if !self.numbers[place].contains_key(number) {
+                    faults.push(format!("{name}: no case answers {number}"));
+                }
+            }
+        }
+        faults
+    }
+
+    pub fn print(&self) {
+        for (kind, found) in &self.kinds {
+            let count: usize = found.values().sum();
+            eprintln!("{count:5}  {kind}  ({})", counts(found));
+        }
+        for (place, name) in ["examine", "choose"].into_iter().enumerate() {
+            let count: usize = self.numbers[place].values().sum();
+            eprintln!(
+                "{name}: {count} cases, by number {}",
+                counts(&self.numbers[place])
+            );
+        }
+    }
+}

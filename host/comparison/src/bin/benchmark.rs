@@ -1,0 +1,174 @@
+//! Choices and examinations per second of the library and of the reference,
+//! on the same plants, and the stack that a call takes.
+
+use cases::model;
+use cases::plants;
+use cases::random::Random;
+use cases::request::*;
+use comparison::stack::stack_of;
+use std::hint::black_box;
+use std::time::{Duration, Instant};
+
+extern "C" {
+    fn pewgull_examine(
+        request: *const u8,
+        request_length: usize,
+        page: *mut u8,
+        page_length: usize,
+        written: *mut u64,
+    ) -> u32;
+    fn pewgull_choose(
+        request: *const u8,
+        request_length: usize,
+        page: *mut u8,
+        page_length: usize,
+        written: *mut u64,
+    ) -> u32;
+    fn pewgull_explain(
+        request: *const u8,
+        request_length: usize,
+        page: *mut u8,
+        page_length: usize,
+        written: *mut u64,
+    ) -> u32;
+}
+
+const PAGE: usize = 512;
+const ROUNDS: usize = 5;
+/// Least time of a measurement.
+const LEAST_TIME: Duration = Duration::from_millis(300);
+
+fn chosen(request: &Request) -> u32 {
+    library::choose(&request.choose_bytes(), &mut [0; PAGE]).0
+}
+
+/// For each tank flow and process three plants with a design and one
+/// without, each with a candidate.
+fn benchmark_plants() -> Vec<Request> {
+    let mut random = Random::new(6_000);
+    let mut found = Vec::new();
+    for flow in 0..=1 {
+        for process in 0..=4 {
+            let mut left = [3, 1];
+            while left != [0, 0] {
+                let plant = plants::plausible(&mut random)
+                    .with(TANK_FLOW, flow)
+                    .with(PROCESS, process)
+                    .with(RETURN_RATIO, 50);
+                let place = match chosen(&plant) {
+                    0 => 0,
+                    5 => 1,
+                    _ => continue,
+                };
+                if left[place] > 0 {
+                    left[place] -= 1;
+                    found.push(plant);
+                }
+            }
+        }
+    }
+    found
+}
+
+/// Runs over all requests until the least time has passed: calls per second.
+fn rate(requests: &[Vec<u8>], mut call: impl FnMut(&[u8]) -> u32) -> f64 {
+    let start = Instant::now();
+    let mut calls = 0;
+    while start.elapsed() < LEAST_TIME {
+        for request in requests {
+            black_box(call(black_box(request)));
+        }
+        calls += requests.len();
+    }
+    calls as f64 / start.elapsed().as_secs_f64()
+}
+
+fn median(mut rates: Vec<f64>) -> f64 {
+    rates.sort_by(f64::total_cmp);
+    rates[rates.len() / 2]
+}
+
+/// Alternating rounds of library and reference, and their median rates.
+fn rates(
+    requests: &[Vec<u8>],
+    by_library: impl Fn(&[u8]) -> u32,
+    by_reference: impl Fn(&[u8]) -> u32,
+) -> (f64, f64) {
+    let (mut first, mut second) = (Vec::new(), Vec::new());
+    for _ in 0..ROUNDS {
+        first.push(rate(requests, &by_library));
+        second.push(rate(requests, &by_reference));
+    }
+    (median(first), median(second))
+}
+
+fn row(name: &str, (library, reference): (f64, f64)) {
+    let ratio = library / reference;
+    println!("{name:<26}{library:>14.0}{reference:>14.0}{ratio:>9.1}");
+}
+
+/// Rates of choosing for plants of one tank flow, with or without a design.
+fn choices(name: &str, plants: &[Request], wanted: impl Fn(&Request) -> bool) {
+    let some: Vec<Vec<u8>> = plants
+        .iter()
+        .filter(|plant| wanted(plant))
+        .map(Request::choose_bytes)
+        .collect();
+    let by_library = |request: &[u8]| library::choose(request, &mut [0; PAGE]).0;
+    let by_reference = |request: &[u8]| model::choose(request, PAGE).number;
+    row(name, rates(&some, by_library, by_reference));
+}
+
+fn examinations(plants: &[Request]) {
+    let all: Vec<Vec<u8>> = plants.iter().map(Request::examine_bytes).collect();
+    let by_library = |request: &[u8]| library::examine(request, &mut [0; PAGE]).0;
+    let by_reference = |request: &[u8]| model::examine(request, PAGE).number;
+    row("examine", rates(&all, by_library, by_reference));
+}
+
+/// The most stack that a call takes over all plants.
+fn stacks(plants: &[Request]) {
+    let mut most = [0; 3];
+    let mut page = [0; PAGE];
+    for plant in plants {
+        let (examine, choose) = (plant.examine_bytes(), plant.choose_bytes());
+        let taken = [
+            stack_of(pewgull_choose, &choose, &mut page),
+            stack_of(pewgull_examine, &examine, &mut page),
+            stack_of(pewgull_explain, &examine, &mut page),
+        ];
+        assert_eq!(taken[0].0, chosen(plant));
+        for (most, (_, bytes)) in most.iter_mut().zip(taken) {
+            *most = bytes.max(*most);
+        }
+    }
+    println!(
+        "stack, bytes: choose {}, examine {}, explain {}",
+        most[0], most[1], most[2]
+    );
+}
+
+fn main() {
+    let plants = benchmark_plants();
+    let count = plants.len();
+    println!("{count} plants; a request's bytes to its listing; medians of {ROUNDS} rounds");
+    let title = "calls per second";
+    println!(
+        "{title:<26}{:>14}{:>14}{:>9}",
+        "library", "reference", "ratio"
+    );
+    let with_design = |plant: &Request| chosen(plant) == 0;
+    choices("choose, all", &plants, |_| true);
+    choices("choose, horizontal flow", &plants, |plant| {
+        plant.get(TANK_FLOW) == 0
+    });
+    choices("choose, vertical flow", &plants, |plant| {
+        plant.get(TANK_FLOW) == 1
+    });
+    choices("choose, with a design", &plants, with_design);
+    choices("choose, without a design", &plants, |plant| {
+        !with_design(plant)
+    });
+    examinations(&plants);
+    stacks(&plants);
+}

@@ -1,0 +1,6 @@
+//! The proved library beside the reference: the same requests to both.
+
+pub mod compare;
+pub mod counts;
+pub mod requests;
+pub mod stack;

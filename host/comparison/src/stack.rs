@@ -1,0 +1,50 @@
+//! How much stack a call takes: it runs on memory filled with a pattern, and
+//! the part that was overwritten is measured.
+
+use std::arch::asm;
+
+/// Pointer and length of the request and of the page, and the count.
+pub type Call = unsafe extern "C" fn(*const u8, usize, *mut u8, usize, *mut u64) -> u32;
+
+const STACK: usize = 1 << 20;
+const FILLED: u8 = 0xa5;
+
+/// Calls with the stack pointer at `top`.
+///
+/// Safety: `top` is aligned to 16 bytes and ends enough memory for the call;
+/// the call keeps to the x86-64 C convention.
+unsafe fn call_at(top: *mut u8, call: Call, request: &[u8], page: &mut [u8]) -> u32 {
+    let mut written: u64 = 0;
+    let number: u64;
+    asm!(
+        "mov r12, rsp",
+        "mov rsp, r13",
+        "call r14",
+        "mov rsp, r12",
+        out("r12") _,
+        in("r13") top,
+        in("r14") call,
+        inout("rdi") request.as_ptr() => _,
+        inout("rsi") request.len() => _,
+        inout("rdx") page.as_mut_ptr() => _,
+        inout("rcx") page.len() => _,
+        inout("r8") &raw mut written => _,
+        lateout("rax") number,
+        clobber_abi("C"),
+    );
+    number as u32
+}
+
+/// The call's number, and the bytes of stack below its caller's frame down to
+/// the deepest byte that was written.
+pub fn stack_of(call: Call, request: &[u8], page: &mut [u8]) -> (u32, usize) {
+    let mut memory = vec![FILLED; STACK];
+    let end = memory.as_mut_ptr_range().end;
+    let top = end.wrapping_sub(end as usize % 16);
+    // Safety: `top` ends a megabyte of memory, and the calls keep to the C
+    // convention.
+    let number = unsafe { call_at(top, call, request, page) };
+    let usable = top as usize - memory.as_ptr() as usize;
+    let untouched = memory.iter().take_while(|byte| **byte == FILLED).count();
+    (number, usable.saturating_sub(untouched))
+}

@@ -1,0 +1,118 @@
+//! Wide comparison of the library with the reference, from fixed seeds.
+
+use cases::groups;
+use cases::random::Random;
+use cases::tanks::OnLines;
+use comparison::compare::{agree, compare, expected, Operation};
+use comparison::counts::{in_parts, settle, Found};
+use comparison::requests;
+
+const EXAMINATIONS: usize = 50_000;
+const EXPLANATIONS: usize = 50_000;
+const CHOICES: usize = 4_000;
+
+/// Random requests of one operation, on pages of several lengths.
+fn random_requests(operation: Operation, seed: u64, count: usize) -> Found {
+    let tanks = OnLines::find();
+    in_parts(seed, count, |seed, share| {
+        let mut random = Random::new(seed);
+        let mut found = Found::default();
+        for _ in 0..share {
+            let bytes = requests::any(&mut random, &tanks, operation);
+            let length = requests::page_length(&mut random);
+            found.add(compare(operation, &bytes, length));
+        }
+        found
+    })
+}
+
+#[test]
+fn examinations() {
+    let found = random_requests(Operation::Examine, 1_000, EXAMINATIONS);
+    let wanted = [0, 1, 2, 3, 4, 6, 7, 8, 9, 10, 11, 101, 102, 103].map(|n| (n, 100));
+    settle("examine", &found, &wanted);
+}
+
+#[test]
+fn explanations() {
+    let found = random_requests(Operation::Explain, 2_000, EXPLANATIONS);
+    let wanted = [0, 1, 2, 3, 4, 6, 11, 101, 102, 103].map(|n| (n, 100));
+    settle("explain", &found, &wanted);
+}
+
+#[test]
+fn choices() {
+    let tanks = OnLines::find();
+    let found = in_parts(3_000, CHOICES, |seed, share| {
+        let mut random = Random::new(seed);
+        let mut found = Found::default();
+        for turn in 0..share {
+            if turn % 2 == 0 {
+                let bytes = requests::with_design(&mut random).choose_bytes();
+                found.add(compare(Operation::Choose, &bytes, 512));
+            } else {
+                let bytes = requests::any(&mut random, &tanks, Operation::Choose);
+                let length = requests::page_length(&mut random);
+                found.add(compare(Operation::Choose, &bytes, length));
+            }
+        }
+        found
+    });
+    let mut wanted = [1, 2, 3, 4, 11, 101, 102, 103].map(|n| (n, 20)).to_vec();
+    wanted.extend([(0, 2_000), (5, 200)]);
+    settle("choose", &found, &wanted);
+}
+
+/// Every page length up to a few bytes more than the listing, for an
+/// examination, a choice, a refusal and an explanation.
+#[test]
+fn page_lengths() {
+    let plant = cases::plants::case_a();
+    let off_grid = plant.with(cases::request::FRACTION, 199);
+    let mut found = Found::default();
+    for (operation, bytes) in [
+        (Operation::Examine, plant.examine_bytes()),
+        (Operation::Choose, plant.choose_bytes()),
+        (Operation::Examine, off_grid.examine_bytes()),
+        (Operation::Explain, plant.examine_bytes()),
+        (Operation::Explain, off_grid.examine_bytes()),
+    ] {
+        let exact = expected(operation, &bytes, 512).written.len();
+        for length in 0..=exact + 3 {
+            found.add(compare(operation, &bytes, length));
+        }
+    }
+    settle("page lengths", &found, &[(0, 12), (6, 8), (11, 400)]);
+}
+
+/// The stored cases through the library.
+#[test]
+fn stored_cases() {
+    let mut found = Found::default();
+    for case in groups::all().cases {
+        let operation = match case.operation {
+            cases::collection::Operation::Examine => Operation::Examine,
+            cases::collection::Operation::Choose => Operation::Choose,
+        };
+        let length = case.page_length as usize;
+        found.add(compare(operation, &case.request_bytes(), length));
+    }
+    settle("stored cases", &found, &[(0, 400)]);
+}
+
+/// A wrong expectation is reported with the request and both answers.
+#[test]
+fn differences_are_reported() {
+    let bytes = cases::plants::case_a().examine_bytes();
+    let mut outcome = expected(Operation::Examine, &bytes, 512);
+    assert_eq!(agree(Operation::Examine, &bytes, 512, &outcome), Ok(0));
+
+    let last = outcome.written.len() - 2;
+    outcome.written[last] ^= 1;
+    let text = agree(Operation::Examine, &bytes, 512, &outcome).unwrap_err();
+    for part in ["01000000b0040000", "transfer 127662;", "transfer 127663;"] {
+        assert!(text.contains(part), "{text}");
+    }
+    let refused = expected(Operation::Examine, &bytes, 0);
+    assert!(agree(Operation::Examine, &bytes, 512, &refused).is_err());
+}
