@@ -1,0 +1,39 @@
+-- A record's header decoded, for every eight bytes, and what its request is answered with. Assumes nothing.
+use Prim.Native.Nat.{ℕ, _+_, _*_, _≤_}
+use mathlib.Core.Path.{_≡_}
+use mathlib.Core.Bool.{cond}
+use mathlib.Core.List.{List}
+use lib.Dec.{leb, eqb}
+use lib.ListN.{getD, take, drop}
+use Rattle.interface.specs.Calls.{Outcome, outcome, examined, Choosing}
+use Rattle.compare.specs.declared.Operation.{Operation}
+use Rattle.compare.specs.declared.Header.{Header}
+
+-- the word of four bytes at a place, the lowest first
+unfoldable pub wordAt : List ℕ → ℕ → ℕ
+wordAt bytes at =
+    getD bytes at 0
+    + 0x100 * getD bytes (at + 1) 0
+    + 0x1_0000 * getD bytes (at + 2) 0
+    + 0x100_0000 * getD bytes (at + 3) 0
+
+-- the operation that a code stands for, with its request's length and a page's
+unfoldable pub operationOf : ℕ → ℕ → Header
+operationOf code room =
+    cond (eqb code 0) (Header.Record Operation.Examine 128 room)
+    (cond (eqb code 1) (Header.Record Operation.Choose 116 room) Header.Bad)
+
+-- a header: the operation's word, then the page's length, at most 512
+unfoldable pub headerOf : List ℕ → Header
+headerOf bytes = cond (leb (wordAt bytes 4) 512) (operationOf (wordAt bytes 0) (wordAt bytes 4)) Header.Bad
+
+-- what the call for an operation gives
+abbrev pub Call : Operation → List ℕ → List ℕ → Outcome → Type 0
+Call Operation.Examine request page o = o ≡ examined request page
+Call Operation.Choose request page o = Choosing request page o
+
+-- a request answered on the first room bytes of a page
+pub record Answers (operation : Operation) (request : List ℕ) (room : ℕ) (before after : List ℕ) (number written : ℕ) : Type 0 where
+  pub called : Call operation request (take room before) (outcome number (take room after) written)
+  pub others : drop room after ≡ drop room before
+  pub within : written ≤ room
