@@ -6,30 +6,31 @@ use Prim.Native.Nat.{ℕ, _≤_, _<_}
 use native.Mathlib.Omega.{arith}
 use lib.Dec.{leb, eqb}
 use borrow.Author.Tests.{le-leb, lt-leb, leb-true}
-use Rattle.compare.specs.Records.{wordAt, operationOf, headerOf}
+use Rattle.request.specs.Layout.{word}
+use Rattle.compare.specs.Records.{operationOf, headerOf}
 use Rattle.compare.specs.declared.Operation.{Operation}
 use Rattle.compare.specs.declared.Header.{Header}
 
-module _ (bytes : List ℕ) (room : ℕ) (r : room ≡ wordAt bytes 4) where
+module _ (bytes : List ℕ) (room : ℕ) (r : room ≡ word bytes 1) where
   -- a page too long
   pub page-long : 512 < room → Header.Bad ≡ headerOf bytes
   unfolding headerOf
-  page-long long = rw (lt-leb (wordAt bytes 4) 512 (omega arith))
+  page-long long = rw (lt-leb (word bytes 1) 512 (omega arith))
 
   -- else the operation decides
   pub by-operation :
-      room ≤ 512 → (code : ℕ) → code ≡ wordAt bytes 0 → (h : Header) → h ≡ operationOf code room → h ≡ headerOf bytes
+      room ≤ 512 → (code : ℕ) → code ≡ word bytes 0 → (h : Header) → h ≡ operationOf code room → h ≡ headerOf bytes
   unfolding headerOf
-  by-operation short code o h e = rw (le-leb (wordAt bytes 4) 512 (omega arith), ← o, ← r) e
+  by-operation short code o h e = rw (le-leb (word bytes 1) 512 (omega arith), ← o, ← r) e
 
 -- what a good header's outcome says, by its three tests
 record-bounds :
     (at : ℕ) (fits first second : Bool) (operation : Operation) (length room : ℕ)
     → (fits ≡ true → at ≤ 512)
     → cond fits
-      (cond first (Header.Record Operation.Examine 128 at) (cond second (Header.Record Operation.Choose 116 at) Header.Bad))
-      Header.Bad
-      ≡ Header.Record operation length room
+    (cond first (Header.Record Operation.Examine 128 at) (cond second (Header.Record Operation.Choose 116 at) Header.Bad))
+    Header.Bad
+    ≡ Header.Record operation length room
     → (length ≤ 128) × (room ≤ 512)
 record-bounds at true true second operation length room most e =
     let l : 128 ≡ length = cc in
@@ -50,5 +51,5 @@ pub bounds :
     → (length ≤ 128) × (room ≤ 512)
 unfolding headerOf operationOf
 bounds bytes operation length room e =
-    record-bounds _ (leb (wordAt bytes 4) 512) (eqb (wordAt bytes 0) 0) (eqb (wordAt bytes 0) 1) _ _ _
-    (leb-true (wordAt bytes 4) 512) e
+    record-bounds _ (leb (word bytes 1) 512) (eqb (word bytes 0) 0) (eqb (word bytes 0) 1) _ _ _
+    (leb-true (word bytes 1) 512) e

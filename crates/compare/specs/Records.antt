@@ -1,21 +1,14 @@
 -- A record's header decoded, for every eight bytes, and what its request is answered with. Assumes nothing.
-use Prim.Native.Nat.{ℕ, _+_, _*_, _≤_}
+use Prim.Native.Nat.{ℕ, _≤_}
 use mathlib.Core.Path.{_≡_}
 use mathlib.Core.Bool.{cond}
 use mathlib.Core.List.{List}
 use lib.Dec.{leb, eqb}
-use lib.ListN.{getD, take, drop}
+use lib.ListN.{take, drop}
+use Rattle.request.specs.Layout.{word}
 use Rattle.interface.specs.Calls.{Outcome, outcome, examined, Choosing}
 use Rattle.compare.specs.declared.Operation.{Operation}
 use Rattle.compare.specs.declared.Header.{Header}
-
--- the word of four bytes at a place, the lowest first
-unfoldable pub wordAt : List ℕ → ℕ → ℕ
-wordAt bytes at =
-    getD bytes at 0
-    + 0x100 * getD bytes (at + 1) 0
-    + 0x1_0000 * getD bytes (at + 2) 0
-    + 0x100_0000 * getD bytes (at + 3) 0
 
 -- the operation that a code stands for, with its request's length and a page's
 unfoldable pub operationOf : ℕ → ℕ → Header
@@ -25,7 +18,7 @@ operationOf code room =
 
 -- a header: the operation's word, then the page's length, at most 512
 unfoldable pub headerOf : List ℕ → Header
-headerOf bytes = cond (leb (wordAt bytes 4) 512) (operationOf (wordAt bytes 0) (wordAt bytes 4)) Header.Bad
+headerOf bytes = cond (leb (word bytes 1) 512) (operationOf (word bytes 0) (word bytes 1)) Header.Bad
 
 -- what the call for an operation gives
 abbrev pub Call : Operation → List ℕ → List ℕ → Outcome → Type 0

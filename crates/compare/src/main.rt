@@ -3,10 +3,11 @@
 use libc::STDIN_FILENO;
 use libc::STDOUT_FILENO;
 ghost use mathlib.Core.Path.{_≡_};
-ghost use Prim.Native.Nat.{_+_, _≤_, _<_};
+ghost use Prim.Native.Nat.{_≤_, _<_};
 ghost use lib.ListN.{length};
+ghost use Rattle.request.specs.Layout.{word};
 ghost use Rattle.interface.specs.Calls.{outcome};
-ghost use Rattle.compare.specs.Records.{wordAt, headerOf, Call, Answers};
+ghost use Rattle.compare.specs.Records.{headerOf, Call, Answers};
 
 // What a record asks for.
 pub enum Operation {
@@ -37,11 +38,12 @@ fn wide(byte: u8) -> u32
     byte as u32
 }
 
-// The word of four bytes at a place, the lowest first.
-fn word(bytes: &[u8; 8], at: usize) -> u32
-    requires { ⌜ at ≤ 4 ⌝ }
-    ensures { λ r. ⌜ r ≡ wordAt (now (bytes .entry)) at ⌝ }
+// The word at an index: four bytes, the lowest first.
+fn word(bytes: &[u8; 8], i: usize) -> u32
+    requires { ⌜ i ≤ 1 ⌝ }
+    ensures { λ r. ⌜ r ≡ word (now (bytes .entry)) i ⌝ }
 {
+    let at = 4 * i;
     wide(bytes[at])
         + 0x100 * wide(bytes[at + 1])
         + 0x1_0000 * wide(bytes[at + 2])
@@ -52,7 +54,7 @@ fn word(bytes: &[u8; 8], at: usize) -> u32
 fn decode_header(bytes: &[u8; 8]) -> Header
     ensures { λ r. ⌜ r ≡ headerOf (now (bytes .entry)) ⌝ }
 {
-    let room = word(bytes, 4);
+    let room = word(bytes, 1) as usize;
     if 512 < room {
         return Header::Bad;
     }
@@ -60,12 +62,12 @@ fn decode_header(bytes: &[u8; 8]) -> Header
         0 => Header::Record {
             operation: Operation::Examine,
             length: 128,
-            room: room as usize,
+            room,
         },
         1 => Header::Record {
             operation: Operation::Choose,
             length: 116,
-            room: room as usize,
+            room,
         },
         _ => Header::Bad,
     }
@@ -81,9 +83,9 @@ fn call(operation: Operation, request: &[u8], page: &mut [u8], written: &mut u64
     }
 }
 
-// Answers a request on the first `room` bytes of a page, and leaves the others as they are.
+// Answers a request on the first `room` bytes of a page of at least 512, and leaves the others as they are.
 fn answer(operation: Operation, request: &[u8], page: &mut [u8], room: usize) -> Reply
-    requires { ⌜ room ≤ length (now page) ⌝ }
+    requires { ⌜ (room ≤ 512) × (512 ≤ length (now page)) ⌝ }
     ensures { λ r. ⌜ Answers operation (now (request .entry)) room (now (page .entry)) (now (page .exit)) (r .number) (r .written) ⌝ }
 {
     let mut written: u64 = 0;

@@ -1,92 +1,68 @@
+-- `respond` is safe and ends: the request's and the page's parts are within their arrays. Assumes nothing.
 use lib.ListN.{replicate}
 use Rattle.compare.proofs.Answering.{counted, front-room}
 use borrow.Author.Needs.{needs}
 use Rattle.compare.proofs.respond.Statement.{statement}
 use Rattle.compare.proofs.respond.Tie as tie
-use Rattle.compare.proofs.respond.Reads as reads
-use Rattle.compare.proofs.respond.Lts as lts
-use Rattle.compare.proofs.answer.Reads as answer-reads
-use Rattle.io.proofs.print_decimal.Reads as print-decimal-reads
-use Rattle.io.proofs.read_full.Reads as read-full-reads
-use Rattle.io.proofs.write_all.Reads as write-all-reads
 
--- src/main.rt:102:36
 array-borrow-prefix-request : tie.Need-array-borrow-prefix-request
 array-borrow-prefix-request c = search needs
 
--- src/main.rt:102:36
 slice-aggregate-read-full : tie.Need-slice-aggregate-read-full
 slice-aggregate-read-full c = counted _ _ (search needs)
 
--- src/main.rt:102:8
 read-full-requires : tie.Need-read-full-requires
 read-full-requires c κs = search needs
 
--- src/main.rt:103:9
 returns : tie.Need-returns
 returns c = search needs
 
--- src/main.rt:106:35
 array-share-prefix-request : tie.Need-array-share-prefix-request
 array-share-prefix-request c =
     let got = c .before .before in
     front-room (replicate 128 0) (got .read-full .last .1 .0) _ (search needs) (got .read-full .kept .1 .0)
 
--- src/main.rt:106:35
 slice-aggregate-answer : tie.Need-slice-aggregate-answer
 slice-aggregate-answer c =
     let got = c .before .before .before in
     counted _ _ (front-room (replicate 128 0) (got .read-full .last .1 .0) _ (search needs) (got .read-full .kept .1 .0))
 
--- src/main.rt:106:55
 slice-aggregate-answer-2 : tie.Need-slice-aggregate-answer-2
 slice-aggregate-answer-2 c = search needs
 
--- src/main.rt:106:9
 answer-requires : tie.Need-answer-requires
 answer-requires c κs = search needs
 
--- src/main.rt:108:38
 cast-print-decimal : tie.Need-cast-print-decimal
 cast-print-decimal c = search needs
 
--- src/main.rt:108:5
 print-decimal-requires : tie.Need-print-decimal-requires
 print-decimal-requires c κs = search needs
 
--- src/main.rt:109:34
 slice-aggregate-write-all : tie.Need-slice-aggregate-write-all
 slice-aggregate-write-all c = search needs
 
--- src/main.rt:109:5
 write-all-requires : tie.Need-write-all-requires
 write-all-requires c κs = search needs
 
--- src/main.rt:110:5
 print-decimal-requires-2 : tie.Need-print-decimal-requires-2
 print-decimal-requires-2 c κs = search needs
 
--- src/main.rt:111:34
 slice-aggregate-write-all-2 : tie.Need-slice-aggregate-write-all-2
 slice-aggregate-write-all-2 c = search needs
 
--- src/main.rt:111:5
 write-all-requires-2 : tie.Need-write-all-requires-2
 write-all-requires-2 c κs = search needs
 
--- src/main.rt:112:34
 array-share-prefix-page : tie.Need-array-share-prefix-page
 array-share-prefix-page c = search needs
 
--- src/main.rt:112:34
 slice-aggregate-write-all-3 : tie.Need-slice-aggregate-write-all-3
 slice-aggregate-write-all-3 c = counted _ _ (search needs)
 
--- src/main.rt:112:5
 write-all-requires-3 : tie.Need-write-all-requires-3
 write-all-requires-3 c κs = search needs
 
--- src/main.rt:98:1
 returns-2 : tie.Need-returns-2
 returns-2 c = search needs
 

@@ -29,6 +29,7 @@ pub fn all() -> Collection {
     readings::odd_numbers(&mut cases);
     readings::rounding(&mut cases, &mut random);
     readings::cod_ratio(&mut cases);
+    readings::cod_ratio_by_heads(&mut cases);
     readings::order(&mut cases);
     degrees::growth_steps(&mut cases);
     degrees::decay_steps(&mut cases, &mut random);

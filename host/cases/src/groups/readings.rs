@@ -7,6 +7,7 @@ use crate::plants::{case_a, roomy};
 use crate::random::Random;
 use crate::request::*;
 use reference::reading::{below, measured, result_range, ORDER};
+use reference::rounding::up;
 
 /// A plant whose other readings allow this one to be anything in its range.
 fn beside(place: usize, thousandths: u64) -> Request {
@@ -194,7 +195,7 @@ fn searched(cases: &mut Collection, random: &mut Random, plant: Request) {
 
 /// COD at 11/5 of the BOD, and one thousandth above.
 pub fn cod_ratio(cases: &mut Collection) {
-    for bod in [20_000, 20_001, 200_003, 1_000_004, 2_000_000] {
+    for bod in [20_001, 200_003, 2_000_000] {
         let plant = roomy().with(NITRATE_TARGET, 50_000).with_measured(BOD, bod);
         let most = 11 * bod / 5;
         cases.examine("COD ratio met", plant.with_measured(COD, most));
@@ -204,6 +205,22 @@ pub fn cod_ratio(cases: &mut Collection) {
         }
     }
     cases.choose("COD ratio broken", roomy().with_measured(COD, 440_001));
+}
+
+/// COD from a head count after short and after long primary settling, with
+/// the least BOD that the ratio allows, and one thousandth below.
+pub fn cod_ratio_by_heads(cases: &mut Collection) {
+    for (settling, load) in [(1, 900), (2, 800)] {
+        let heads = 20_000;
+        let plant = roomy()
+            .with(NITRATE_TARGET, 50_000)
+            .with(PRIMARY_SETTLING, settling)
+            .with_reading(COD, HEADS, heads);
+        let cod = up(u64::from(heads) * load * 100, u64::from(plant.get(FLOW)));
+        let least = up(5 * cod, 11);
+        cases.examine("COD ratio met", plant.with_measured(BOD, least));
+        cases.examine("COD ratio broken", plant.with_measured(BOD, least - 1));
+    }
 }
 
 /// Two refusals due: the first by the paper's order is given.

@@ -1,0 +1,41 @@
+-- Wrong readings of a record differ from the definitions on concrete data: Case A's listing is 194 bytes long, so that a page
+-- of one byte more than the 193 asked for gives another number. Assumes nothing.
+use mathlib.Core.Path.{_≡_, refl}
+use mathlib.Core.List.{List, [], _∷_}
+use Prim.Native.Nat.{ℕ}
+use lib.Ieee.{ofBits}
+use lib.ListN.{replicate}
+use Rattle.rules.specs.Listing.{writing}
+use Rattle.rules.proofs.Computing.{steps}
+use Rattle.request.specs.Kinds.{processOf, precipitantOf, tankFlowOf, removalOf, primarySettlingOf, readingOf}
+use Rattle.request.specs.Layout.{word, plantOf, readingsOf, candidateOf, kindsKnown, checked, decodeExamination}
+use Rattle.request.proofs.CaseA.{requestA}
+use Rattle.interface.specs.Calls.{answered, numberOf, onExamination, examined}
+use Rattle.compare.specs.Records.{operationOf, headerOf}
+use Rattle.compare.specs.declared.Operation.{Operation}
+use Rattle.compare.specs.declared.Header.{Header}
+
+-- Case A examined on a page of this length: the number
+abbrev pub numberOn : ℕ → ℕ
+numberOn room = examined requestA (replicate room 0) .number
+
+pub page-lengths : (numberOn 193 ≡ 11) × (numberOn 194 ≡ 0)
+unfolding steps examined onExamination answered numberOf requestA decodeExamination checked word kindsKnown plantOf readingsOf candidateOf processOf precipitantOf tankFlowOf removalOf primarySettlingOf readingOf ofBits writing
+page-lengths = (refl, refl)
+
+-- a header of two words of two bytes
+abbrev pub header : ℕ → ℕ → ℕ → ℕ → List ℕ
+header a b c d = a ∷ b ∷ 0 ∷ 0 ∷ c ∷ d ∷ 0 ∷ 0 ∷ []
+
+pub page-of-512 : headerOf (header 0 0 0 2) ≡ Header.Record Operation.Examine 128 512
+unfolding headerOf operationOf word
+page-of-512 = refl
+
+pub page-of-513 : headerOf (header 0 0 1 2) ≡ Header.Bad
+unfolding headerOf operationOf word
+page-of-513 = refl
+
+-- its first byte alone would be read as a request to choose
+pub operation-257 : headerOf (header 1 1 0 2) ≡ Header.Bad
+unfolding headerOf operationOf word
+operation-257 = refl
