@@ -1,2 +1,3 @@
+-- Limits of the oxygen figures, and wrong roundings that they are not.
 pub mod Oxygen
 pub mod Refuted

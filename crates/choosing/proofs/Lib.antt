@@ -1,3 +1,4 @@
+-- The laws behind the sweep, from the order of choosing to demand 3, and the wrong choosers that they shut out.
 pub mod KeyOrder
 pub mod Growing
 pub mod Stepping

@@ -1,3 +1,4 @@
+-- Each exit of examining over plain values, and the wrong examiners that it shuts out.
 pub mod Verdicts
 pub mod WrongExaminers
 pub mod Refuted

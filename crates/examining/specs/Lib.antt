@@ -1,1 +1,2 @@
+-- What the functions of this crate promise beside the rules.
 pub mod Stages

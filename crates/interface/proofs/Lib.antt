@@ -1,2 +1,3 @@
+-- Outcomes of the calls over plain values, and the bytes of a number.
 pub mod Outcomes
-pub mod Bytes8
+pub mod EightBytes

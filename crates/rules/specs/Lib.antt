@@ -1,4 +1,7 @@
--- Document 01 as definitions over the whole numbers: a file for each of its sections, in its order.
+-- Document 01 as definitions over the whole numbers, in its order: the roundings; plant data and site; lab readings, with
+-- the rules 1 to 4; sludge age and nitrate; sludge and tanks; aeration and recirculation; examining, with the rules 6 to
+-- 10, and numbered answers; choosing; the listing; the worked cases. Beside them: the ranges as facts, the two nitrate
+-- columns, and what explains a candidate.
 pub mod Rounding
 pub mod PlantData
 pub mod LabReadings
@@ -8,9 +11,9 @@ pub mod SludgeTanks
 pub mod AerationSteps
 pub mod Ranges
 pub mod Examining
-pub mod TwoColumns
-pub mod Explaining
 pub mod Answers
 pub mod Choosing
+pub mod TwoColumns
+pub mod Explaining
 pub mod Listing
 pub mod Cases

@@ -3,7 +3,7 @@
 use Prim.Native.Nat.{_-_}
 use borrow.Author.Needs.{needs}
 use native.Mathlib.Omega.{arith}
-use Rattle.interface.proofs.Bytes8.{Left, none-written, byte-written, all-written}
+use Rattle.interface.proofs.EightBytes.{Left, none-written, byte-written, all-written}
 use Rattle.interface.proofs.put_eight.Statement.{statement}
 use Rattle.interface.proofs.put_eight.Tie as tie
 
