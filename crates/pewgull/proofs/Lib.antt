@@ -1,0 +1,2 @@
+-- What the exported calls shut out.
+pub mod WrongPrograms
