@@ -3,9 +3,8 @@
 use libc::STDIN_FILENO;
 use libc::STDOUT_FILENO;
 ghost use mathlib.Core.Path.{_≡_};
-ghost use Prim.Native.Nat.{_≤_, _<_};
+ghost use Prim.Native.Nat.{_≤_};
 ghost use lib.ListN.{length};
-ghost use Rattle.request.specs.Layout.{word};
 ghost use Rattle.interface.specs.Calls.{outcome};
 ghost use Rattle.compare.specs.Records.{headerOf, Call, Answers};
 
@@ -31,34 +30,15 @@ pub struct Reply {
     pub written: usize,
 }
 
-// A byte as a wider number.
-fn wide(byte: u8) -> u32
-    ensures { λ r. ⌜ (r ≡ byte) × (r < 256) ⌝ }
-{
-    byte as u32
-}
-
-// The word at an index: four bytes, the lowest first.
-fn word(bytes: &[u8; 8], i: usize) -> u32
-    requires { ⌜ i ≤ 1 ⌝ }
-    ensures { λ r. ⌜ r ≡ word (now (bytes .entry)) i ⌝ }
-{
-    let at = 4 * i;
-    wide(bytes[at])
-        + 0x100 * wide(bytes[at + 1])
-        + 0x1_0000 * wide(bytes[at + 2])
-        + 0x100_0000 * wide(bytes[at + 3])
-}
-
 // What a header asks for. A page is at most 512 bytes long.
 fn decode_header(bytes: &[u8; 8]) -> Header
     ensures { λ r. ⌜ r ≡ headerOf (now (bytes .entry)) ⌝ }
 {
-    let room = word(bytes, 1) as usize;
+    let room = request::word(bytes, 1) as usize;
     if 512 < room {
         return Header::Bad;
     }
-    match word(bytes, 0) {
+    match request::word(bytes, 0) {
         0 => Header::Record {
             operation: Operation::Examine,
             length: 128,

@@ -59,7 +59,7 @@ fn wide(byte: u8) -> u32
 }
 
 // The word at an index: four bytes, the lowest first.
-fn word(bytes: &[u8], i: usize) -> u32
+pub fn word(bytes: &[u8], i: usize) -> u32
     requires { ⌜ 4 * i + 4 ≤ length (now bytes) ⌝ }
     ensures { λ r. ⌜ r ≡ word (now (bytes .entry)) i ⌝ }
 {

@@ -22,20 +22,20 @@ returns-2 : tie.Need-returns-2
 unfolding operationOf
 returns-2 c =
     let code = c .before in
-    by-operation _ _ (code .before .before .word .ensures) (search needs) _ (code .word2 .ensures) _ (simp (c .match .keys1))
+    by-operation _ _ (code .before .before .before .word .ensures) (search needs) _ (code .word2 .ensures) _ (simp (c .match .keys1))
 
 returns-3 : tie.Need-returns-3
 unfolding operationOf
 returns-3 c =
     let code = c .before in
-    by-operation _ _ (code .before .before .word .ensures) (search needs) _ (code .word2 .ensures) _ (simp (c .match .keys2))
+    by-operation _ _ (code .before .before .before .word .ensures) (search needs) _ (code .word2 .ensures) _ (simp (c .match .keys2))
 
 returns-4 : tie.Need-returns-4
 unfolding operationOf
 returns-4 c =
     let code = c .before in
     let none = c .match .rest in
-    by-operation _ _ (code .before .before .word .ensures) (search needs) _ (code .word2 .ensures) _
+    by-operation _ _ (code .before .before .before .word .ensures) (search needs) _ (code .word2 .ensures) _
     (simp (ne-eqb _ _ (none .0 .1), ne-eqb _ _ (none .1)))
 
 pub decode-header-spec : {M : Type 1} → statement M
