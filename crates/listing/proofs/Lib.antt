@@ -4,3 +4,4 @@ pub mod Filling
 pub mod Listed
 pub mod Outcomes
 pub mod Refuted
+pub mod Longest
