@@ -7,6 +7,7 @@ use crate::request::*;
 use crate::tanks::OnLines;
 use reference::nitrogen::*;
 use reference::reading::{result_range, Determinand, ORDER};
+use reference::stages::Stages;
 use reference::{accept, Process};
 
 /// The accepted concentrations of a request, if none of 1 to 4 is due.
@@ -19,9 +20,9 @@ pub fn accepted(request: &Request) -> Option<[u64; 5]> {
 /// can remove and so much over.
 pub fn on_cover(request: Request, over: u64) -> Option<Request> {
     let bod = accepted(&request)?[0];
-    let (reactor, _) = figures::of_request(&request)?;
+    let stages = figures::of_request(&request)?;
     let target = u64::from(request.get(NITRATE_TARGET));
-    let nitrogen = reactor.removable + over + target + 2_000 + 4 * bod / 100;
+    let nitrogen = stages.removable + over + target + 2_000 + 4 * bod / 100;
     if nitrogen > 500_000 {
         return None;
     }
@@ -30,7 +31,7 @@ pub fn on_cover(request: Request, over: u64) -> Option<Request> {
 
 /// The site's surface set to the candidate's, less so much.
 pub fn on_surface(request: Request, less: u32) -> Option<Request> {
-    let (_, settling) = figures::of_request(&request)?;
+    let settling = figures::of_request(&request)?.settling;
     let surface = (settling.surface as u32).checked_sub(less)?;
     let inside = (1..=100_000).contains(&surface);
     inside.then(|| request.with(SITE_SURFACE, surface))
@@ -38,7 +39,7 @@ pub fn on_surface(request: Request, less: u32) -> Option<Request> {
 
 /// The site's depth set to the candidate's, less so much.
 pub fn on_depth(request: Request, less: u32) -> Option<Request> {
-    let (_, settling) = figures::of_request(&request)?;
+    let settling = figures::of_request(&request)?.settling;
     let depth = (settling.depth as u32).checked_sub(less)?;
     let inside = (3_000..=10_000).contains(&depth);
     inside.then(|| request.with(SITE_DEPTH, depth))
@@ -83,7 +84,7 @@ pub fn heads_for(
 }
 
 fn capacity_of(request: &Request) -> u64 {
-    figures::of_request(request).map_or(0, |(reactor, _)| reactor.capacity)
+    figures::of_request(request).map_or(0, |stages| stages.nitrate.capacity)
 }
 
 /// Whether the capacity is lower at the fraction before the candidate's.
@@ -107,7 +108,7 @@ pub fn capacity_by_rounding(request: &Request) -> bool {
     let Ok(decoded) = request.decoded() else {
         return false;
     };
-    let Some((reactor, _)) = figures::of_request(request) else {
+    let Some(Stages { nitrate, .. }) = figures::of_request(request) else {
         return false;
     };
     let fraction = u64::from(decoded.candidate.fraction);
@@ -115,10 +116,10 @@ pub fn capacity_by_rounding(request: &Request) -> bool {
     let other = match decoded.plant.process {
         Process::PreAnoxic | Process::StepFeed(_) => capacity_rounded_once(fraction, temperature),
         Process::Simultaneous | Process::Intermittent => {
-            capacity_by_uptake(fraction, uptake_for_capacity(reactor.weighted_age) + 1)
+            capacity_by_uptake(fraction, uptake_for_capacity(nitrate.weighted_age) + 1)
         }
     };
-    other != reactor.capacity
+    other != nitrate.capacity
 }
 
 /// A random plant on one of the lines, or one past it.

@@ -1,7 +1,7 @@
 //! What each call of the interface answers, by the reference.
 
-use crate::figures;
 use crate::request::{decode, CHOOSE_LENGTH, EXAMINE_LENGTH};
+use reference::stages::Stages;
 use reference::{listing, Answer};
 
 pub const SHORT_PAGE: u32 = reference::refusal::SHORT_PAGE as u32;
@@ -46,6 +46,18 @@ pub fn choose(request: &[u8], page_length: usize) -> Outcome {
     }
 }
 
+/// The figures that the rules 7 to 10 ask of.
+fn judged_by(stages: &Stages) -> [u64; 6] {
+    [
+        stages.nitrate.to_denitrify,
+        stages.removable,
+        stages.settling.solids,
+        stages.settling.diluted_volume,
+        stages.settling.surface,
+        stages.settling.depth,
+    ]
+}
+
 /// Six 64-bit numbers, or a refusal and zeros.
 pub fn explain(request: &[u8], page_length: usize) -> Outcome {
     let data = match decode(request, EXAMINE_LENGTH) {
@@ -55,19 +67,9 @@ pub fn explain(request: &[u8], page_length: usize) -> Outcome {
     if page_length < EXPLAIN_PAGE {
         return nothing(SHORT_PAGE);
     }
-    let (number, figures) = match figures::of_decoded(&data) {
+    let (number, figures) = match reference::explain(&data.plant, &data.readings, data.candidate) {
         Err(number) => (u32::from(number), [0; 6]),
-        Ok((reactor, settling)) => (
-            0,
-            [
-                reactor.to_denitrify,
-                reactor.removable,
-                settling.solids,
-                settling.diluted_volume,
-                settling.surface,
-                settling.depth,
-            ],
-        ),
+        Ok(stages) => (0, judged_by(&stages)),
     };
     let written = figures.iter().flat_map(|f| f.to_le_bytes()).collect();
     Outcome { number, written }

@@ -2,7 +2,8 @@
 
 use crate::random::Random;
 use crate::request::*;
-use reference::settling::*;
+use reference::settling::{cube_root, overflow_rate_limit, sludge_volume_loading};
+use reference::stages::{self, Solids};
 use reference::{Removal, TankFlow};
 
 #[derive(Clone, Copy, Debug)]
@@ -11,26 +12,20 @@ pub struct Tank {
     pub removal: u32,
     pub return_ratio: u32,
     pub thickening: u32,
-    pub bottom: u64,
-    pub solids: u64,
-    pub diluted_volume: u64,
+    pub solids: Solids,
 }
 
 const REMOVALS: [Removal; 3] = [Removal::Scraper, Removal::Suction, Removal::Hopper];
 pub const FLOWS: [TankFlow; 2] = [TankFlow::Horizontal, TankFlow::Vertical];
 
 fn tank(index: u32, removal: u32, return_ratio: u32, thickening: u32, root: u64) -> Tank {
-    let bottom = bottom_solids(root, u64::from(index));
-    let returned = return_solids(REMOVALS[removal as usize], bottom);
-    let solids = solids(u64::from(return_ratio), returned);
+    let kind = REMOVALS[removal as usize];
     Tank {
         index,
         removal,
         return_ratio,
         thickening,
-        bottom,
-        solids,
-        diluted_volume: diluted_sludge_volume(solids, u64::from(index)),
+        solids: stages::solids(u64::from(index), kind, u64::from(return_ratio), root),
     }
 }
 
@@ -59,12 +54,9 @@ impl Tank {
 
     /// The sum of the depth's zones, before it is raised to 3,000.
     pub fn zones(&self, flow: u32) -> u64 {
-        let ratio = u64::from(self.return_ratio);
-        let rate = surface_overflow_rate(FLOWS[flow as usize], self.diluted_volume);
-        let time = u64::from(self.thickening);
-        500 + separation_depth(rate, ratio, self.diluted_volume)
-            + storage_depth(rate, ratio, self.diluted_volume)
-            + thickening_depth(self.solids, rate, ratio, time, self.bottom)
+        let rate = self.solids.overflow_rate(FLOWS[flow as usize]);
+        let (ratio, time) = (self.return_ratio, self.thickening);
+        self.solids.zones(rate, u64::from(ratio), u64::from(time))
     }
 
     /// The plant with this tank as its candidate's.
@@ -120,15 +112,19 @@ fn nearest_zones(tanks: &[Tank], flow: u32) -> (u64, u64) {
 impl OnLines {
     pub fn find() -> Self {
         let tanks = all();
-        let kept = select(&tanks, |t| solids_allowed(t.solids, t.diluted_volume));
+        let kept = select(&tanks, |t| t.solids.are_allowed());
         let nearest = [0, 1].map(|flow| nearest_zones(&kept, flow));
         OnLines {
-            least_solids: select(&tanks, |t| t.solids == 1_000),
-            solids_too_low: select(&tanks, |t| t.solids == 999),
-            most_volume: select(&tanks, |t| t.diluted_volume == 600),
-            volume_too_high: select(&tanks, |t| t.diluted_volume == 601),
-            rate_held: by_flow(&kept, |t, flow| t.diluted_volume == held_volume(flow)),
-            rate_free: by_flow(&kept, |t, flow| t.diluted_volume == held_volume(flow) + 1),
+            least_solids: select(&tanks, |t| t.solids.solids == 1_000),
+            solids_too_low: select(&tanks, |t| t.solids.solids == 999),
+            most_volume: select(&tanks, |t| t.solids.diluted_volume == 600),
+            volume_too_high: select(&tanks, |t| t.solids.diluted_volume == 601),
+            rate_held: by_flow(&kept, |t, flow| {
+                t.solids.diluted_volume == held_volume(flow)
+            }),
+            rate_free: by_flow(&kept, |t, flow| {
+                t.solids.diluted_volume == held_volume(flow) + 1
+            }),
             just_raised: by_flow(&kept, |t, flow| t.zones(flow) == nearest[flow as usize].0),
             just_met: by_flow(&kept, |t, flow| t.zones(flow) == 3_000),
             just_above: by_flow(&kept, |t, flow| t.zones(flow) == nearest[flow as usize].1),

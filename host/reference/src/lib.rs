@@ -18,6 +18,7 @@ pub mod rounding;
 pub mod settling;
 pub mod sheet;
 pub mod sludge;
+pub mod stages;
 
 pub use choose::choose;
 pub use examine::{examine, Candidate};
@@ -25,3 +26,4 @@ pub use listing::{listing, write};
 pub use plant::{Plant, Precipitant, PrimarySettling, Process, Removal, Steps, TankFlow};
 pub use reading::{accept, Reading};
 pub use sheet::{Answer, Sheet};
+pub use stages::explain;

@@ -97,9 +97,19 @@ pub fn thickening_depth(
     up(load, 1000 * bottom_solids)
 }
 
-/// H: depth from the zones, with the clear water zone of 500 mm.
+/// The depth's zones together, with the clear water zone of 500 mm.
+pub fn zones(separation: u64, storage: u64, thickening: u64) -> u64 {
+    500 + separation + storage + thickening
+}
+
+/// H: the zones raised to the least depth.
+pub fn raised(zones: u64) -> u64 {
+    zones.max(3_000)
+}
+
+/// H: depth from its zones.
 pub fn settling_depth(separation: u64, storage: u64, thickening: u64) -> u64 {
-    (500 + separation + storage + thickening).max(3_000)
+    raised(zones(separation, storage, thickening))
 }
 
 /// Settling volume, m3.

@@ -2,7 +2,6 @@
 //! and limits of the site that decide.
 
 use crate::collection::{chosen, Collection};
-use crate::figures::{self, Settling};
 use crate::lines::{accepted, on_cover};
 use crate::plants;
 use crate::random::Random;
@@ -10,6 +9,7 @@ use crate::request::*;
 use reference::examine::most_return;
 use reference::settling::{cube_root, settling_volume, solids_allowed};
 use reference::sludge::{reactor_solids, reactor_volume};
+use reference::stages::{self, Settling};
 use reference::{Answer, Plant};
 
 /// Total, fraction, return ratio and thickening time.
@@ -45,7 +45,7 @@ fn for_each_tank(plant: &Plant, mut visit: impl FnMut(u64, u64, Settling)) {
     for time in 20..=25 {
         let root = cube_root(time);
         for ratio in 30..=u64::from(most_return(plant.tank_flow)) {
-            visit(ratio, time, figures::settling(plant, ratio, time, root));
+            visit(ratio, time, stages::settling(plant, ratio, time, root));
         }
     }
 }
@@ -60,12 +60,13 @@ fn least(request: &Request) -> Vec<Rank> {
     let tanks = kept_tanks(&plant);
     let mut ranks: Vec<Rank> = Vec::new();
     for fraction in 200..=500 {
-        let reactor = figures::reactor(&plant, &accepted, fraction);
-        if reactor.to_denitrify > reactor.removable {
+        let nitrate = stages::nitrate(&plant, &accepted, fraction);
+        if !nitrate.is_covered(accepted[0]) {
             continue;
         }
+        let mass = stages::sludge(&plant, &accepted, &nitrate).mass;
         for tank in &tanks {
-            let total = reactor_volume(reactor.mass, tank.reactor_solids) + tank.volume;
+            let total = reactor_volume(mass, tank.reactor_solids) + tank.volume;
             let best = ranks.first().map_or(u64::MAX, |first| first.0);
             if total < best {
                 ranks.clear();
@@ -132,10 +133,8 @@ pub fn ties(cases: &mut Collection, random: &mut Random) {
 fn fractions(request: &Request) -> Option<(u64, u64)> {
     let accepted = accepted(request)?;
     let plant = request.decoded().ok()?.plant;
-    let covered = (200..=500).find(|fraction| {
-        let reactor = figures::reactor(&plant, &accepted, *fraction);
-        reactor.to_denitrify <= reactor.removable
-    })?;
+    let covered = (200..=500)
+        .find(|fraction| stages::nitrate(&plant, &accepted, *fraction).is_covered(accepted[0]))?;
     let decoded = request.decoded().ok()?;
     match reference::choose(&decoded.plant, &decoded.readings) {
         Answer::Sheet(sheet) => Some((sheet.fraction, covered)),
@@ -172,8 +171,7 @@ pub fn heavier_first(cases: &mut Collection, random: &mut Random) {
 fn cause(request: &Request) -> Option<&'static str> {
     let accepted = accepted(request)?;
     let plant = request.decoded().ok()?.plant;
-    let reactor = figures::reactor(&plant, &accepted, 500);
-    if reactor.to_denitrify > reactor.removable {
+    if !stages::nitrate(&plant, &accepted, 500).is_covered(accepted[0]) {
         return Some("no design: nitrate");
     }
     let (mut shallow, mut thin, mut kept) = (false, false, false);

@@ -68,12 +68,12 @@ pub fn decay_steps(cases: &mut Collection, random: &mut Random) {
             let plant = plants::plausible(random)
                 .with(DESIGN_TEMPERATURE, design)
                 .with(AERATION_TEMPERATURE, aeration);
-            let Some((reactor, _)) = figures::of_request(&plant) else {
+            let Some(stages) = figures::of_request(&plant) else {
                 continue;
             };
             let shows = [
-                decay_shows(reactor.age, design, endogenous_loss),
-                decay_shows(reactor.age, aeration, uptake_for_aeration),
+                decay_shows(stages.nitrate.age, design, endogenous_loss),
+                decay_shows(stages.nitrate.age, aeration, uptake_for_aeration),
             ];
             for place in 0..2 {
                 if left[place] > 0 && shows[place] && examined(&plant) == 0 {

@@ -1,0 +1,155 @@
+//! The stages of a candidate of the grid, in the paper's order: nitrate and
+//! sludge by the fraction alone; solids, surface and depth by return ratio
+//! and thickening time alone. Each gives its figures whether a rule is kept
+//! or not.
+
+use crate::age::*;
+use crate::examine::{on_grid, Candidate};
+use crate::nitrogen::*;
+use crate::plant::{Plant, Removal, TankFlow};
+use crate::reading::{accept, Reading};
+use crate::refusal;
+use crate::rounding::down;
+use crate::settling as step;
+use crate::sludge::*;
+
+/// Figures of sludge age and nitrate.
+#[derive(Clone, Copy, Debug)]
+pub struct Nitrate {
+    pub age: u64,
+    pub weighted_age: u64,
+    pub to_nitrify: u64,
+    pub to_denitrify: u64,
+    pub capacity: u64,
+}
+
+pub fn nitrate(plant: &Plant, accepted: &[u64; 5], fraction: u64) -> Nitrate {
+    let [bod, _, _, nitrogen, _] = *accepted;
+    let temperature = u64::from(plant.design_temperature);
+    let factor = safety_factor(u64::from(plant.bod_load));
+    let age = sludge_age(aerobic_sludge_age(factor, growth(temperature)), fraction);
+    let weighted_age = weighted_sludge_age(age, decay(temperature));
+    let to_nitrify = nitrogen_to_nitrify(nitrogen, bod);
+    Nitrate {
+        age,
+        weighted_age,
+        to_nitrify,
+        to_denitrify: nitrate_to_denitrify(to_nitrify, u64::from(plant.nitrate_target)),
+        capacity: denitrification_capacity(plant.process, fraction, temperature, weighted_age),
+    }
+}
+
+impl Nitrate {
+    pub fn is_covered(&self, bod: u64) -> bool {
+        is_covered(self.capacity, bod, self.to_denitrify)
+    }
+
+    /// Nitrate that the tank can remove, rounded down.
+    pub fn removable(&self, bod: u64) -> u64 {
+        down(self.capacity * bod, 1000)
+    }
+}
+
+/// Sludge production and sludge mass.
+#[derive(Clone, Copy, Debug)]
+pub struct Sludge {
+    pub production: u64,
+    pub mass: u64,
+}
+
+pub fn sludge(plant: &Plant, accepted: &[u64; 5], nitrate: &Nitrate) -> Sludge {
+    let [bod, _, solids, _, phosphorus] = *accepted;
+    let flow = u64::from(plant.daily_flow);
+    let target = u64::from(plant.phosphorus_target);
+    let precipitated = phosphorus_to_precipitate(phosphorus, target, bod);
+    let production = carbon_sludge(flow, bod, solids, endogenous_loss(nitrate.weighted_age))
+        + phosphorus_sludge(flow, plant.precipitant, precipitated);
+    Sludge {
+        production,
+        mass: sludge_mass(nitrate.age, production),
+    }
+}
+
+/// Solids of bottom sludge and reactor, and the diluted sludge volume.
+#[derive(Clone, Copy, Debug)]
+pub struct Solids {
+    pub bottom: u64,
+    pub solids: u64,
+    pub diluted_volume: u64,
+}
+
+/// `root` is the cube root of the thickening time.
+pub fn solids(index: u64, removal: Removal, ratio: u64, root: u64) -> Solids {
+    let bottom = step::bottom_solids(root, index);
+    let solids = step::solids(ratio, step::return_solids(removal, bottom));
+    Solids {
+        bottom,
+        solids,
+        diluted_volume: step::diluted_sludge_volume(solids, index),
+    }
+}
+
+impl Solids {
+    pub fn are_allowed(&self) -> bool {
+        step::solids_allowed(self.solids, self.diluted_volume)
+    }
+
+    pub fn overflow_rate(&self, flow: TankFlow) -> u64 {
+        step::surface_overflow_rate(flow, self.diluted_volume)
+    }
+
+    /// The sum of the depth's zones, before it is raised to the least depth.
+    pub fn zones(&self, rate: u64, ratio: u64, time: u64) -> u64 {
+        step::zones(
+            step::separation_depth(rate, ratio, self.diluted_volume),
+            step::storage_depth(rate, ratio, self.diluted_volume),
+            step::thickening_depth(self.solids, rate, ratio, time, self.bottom),
+        )
+    }
+}
+
+/// All figures of the settling tank.
+#[derive(Clone, Copy, Debug)]
+pub struct Settling {
+    pub solids: u64,
+    pub diluted_volume: u64,
+    pub surface: u64,
+    pub depth: u64,
+}
+
+/// `root` is the cube root of the thickening time.
+pub fn settling(plant: &Plant, ratio: u64, time: u64, root: u64) -> Settling {
+    let index = u64::from(plant.sludge_volume_index);
+    let solids = solids(index, plant.removal, ratio, root);
+    let rate = solids.overflow_rate(plant.tank_flow);
+    Settling {
+        solids: solids.solids,
+        diluted_volume: solids.diluted_volume,
+        surface: step::settling_surface(u64::from(plant.wet_weather_flow), rate),
+        depth: step::raised(solids.zones(rate, ratio, time)),
+    }
+}
+
+/// What a candidate is judged by, permitted or not.
+#[derive(Clone, Copy, Debug)]
+pub struct Stages {
+    pub nitrate: Nitrate,
+    pub removable: u64,
+    pub settling: Settling,
+}
+
+/// The stages of a candidate, or the refusal 1 to 4 or 6.
+pub fn explain(plant: &Plant, readings: &[Reading; 5], candidate: Candidate) -> Result<Stages, u8> {
+    let accepted = accept(plant, readings)?;
+    if !on_grid(plant.tank_flow, candidate) {
+        return Err(refusal::OFF_GRID);
+    }
+    let time = u64::from(candidate.thickening);
+    let ratio = u64::from(candidate.return_ratio);
+    let nitrate = nitrate(plant, &accepted, u64::from(candidate.fraction));
+    Ok(Stages {
+        nitrate,
+        removable: nitrate.removable(accepted[0]),
+        settling: settling(plant, ratio, time, step::cube_root(time)),
+    })
+}
