@@ -143,7 +143,7 @@ pub fn page_length(random: &mut Random) -> usize {
 fn at_chosen_site(random: &mut Random, request: Request) -> Request {
     let mut page = [0; 512];
     let (number, written) = library::choose(&request.choose_bytes(), &mut page);
-    if number != 0 {
+    if number != library::number::SHEET {
         return request;
     }
     let text = String::from_utf8_lossy(&page[..written as usize]).into_owned();

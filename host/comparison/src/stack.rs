@@ -1,10 +1,8 @@
 //! How much stack a call takes: it runs on memory filled with a pattern, and
 //! the part that was overwritten is measured.
 
+use library::Call;
 use std::arch::asm;
-
-/// Pointer and length of the request and of the page, and the count.
-pub type Call = unsafe extern "C" fn(*const u8, usize, *mut u8, usize, *mut u64) -> u32;
 
 const STACK: usize = 1 << 20;
 const FILLED: u8 = 0xa5;

@@ -6,6 +6,7 @@ use cases::tanks::OnLines;
 use comparison::compare::{agree, compare, expected, Operation};
 use comparison::counts::{in_parts, settle, Found};
 use comparison::requests;
+use library::number::*;
 
 const EXAMINATIONS: usize = 50_000;
 const EXPLANATIONS: usize = 50_000;
@@ -26,18 +27,26 @@ fn random_requests(operation: Operation, seed: u64, count: usize) -> Found {
     })
 }
 
+/// So many answers of each number but these.
+fn all_but(not_given: &[u32], least: usize) -> Vec<(u32, usize)> {
+    let numbers = ALL.iter().map(|known| known.number);
+    numbers
+        .filter(|number| !not_given.contains(number))
+        .map(|number| (number, least))
+        .collect()
+}
+
 #[test]
 fn examinations() {
     let found = random_requests(Operation::Examine, 1_000, EXAMINATIONS);
-    let wanted = [0, 1, 2, 3, 4, 6, 7, 8, 9, 10, 11, 101, 102, 103].map(|n| (n, 100));
-    settle("examine", &found, &wanted);
+    settle("examine", &found, &all_but(&[NO_DESIGN], 100));
 }
 
 #[test]
 fn explanations() {
     let found = random_requests(Operation::Explain, 2_000, EXPLANATIONS);
-    let wanted = [0, 1, 2, 3, 4, 6, 11, 101, 102, 103].map(|n| (n, 100));
-    settle("explain", &found, &wanted);
+    let not_given = [NO_DESIGN, NITRATE, SOLIDS, SURFACE, DEPTH];
+    settle("explain", &found, &all_but(&not_given, 100));
 }
 
 #[test]
@@ -58,8 +67,9 @@ fn choices() {
         }
         found
     });
-    let mut wanted = [1, 2, 3, 4, 11, 101, 102, 103].map(|n| (n, 20)).to_vec();
-    wanted.extend([(0, 2_000), (5, 200)]);
+    let not_given = [OFF_GRID, NITRATE, SOLIDS, SURFACE, DEPTH];
+    let mut wanted = all_but(&not_given, 20);
+    wanted.extend([(SHEET, 2_000), (NO_DESIGN, 200)]);
     settle("choose", &found, &wanted);
 }
 
@@ -82,7 +92,11 @@ fn page_lengths() {
             found.add(compare(operation, &bytes, length));
         }
     }
-    settle("page lengths", &found, &[(0, 12), (6, 8), (11, 400)]);
+    settle(
+        "page lengths",
+        &found,
+        &[(SHEET, 12), (OFF_GRID, 8), (SHORT_PAGE, 400)],
+    );
 }
 
 /// The stored cases through the library.
@@ -97,7 +111,7 @@ fn stored_cases() {
         let length = case.page_length as usize;
         found.add(compare(operation, &case.request_bytes(), length));
     }
-    settle("stored cases", &found, &[(0, 400)]);
+    settle("stored cases", &found, &[(SHEET, 400)]);
 }
 
 /// A wrong expectation is reported with the request and both answers.
@@ -105,7 +119,7 @@ fn stored_cases() {
 fn differences_are_reported() {
     let bytes = cases::plants::case_a().examine_bytes();
     let mut outcome = expected(Operation::Examine, &bytes, 512);
-    assert_eq!(agree(Operation::Examine, &bytes, 512, &outcome), Ok(0));
+    assert_eq!(agree(Operation::Examine, &bytes, 512, &outcome), Ok(SHEET));
 
     let last = outcome.written.len() - 2;
     outcome.written[last] ^= 1;

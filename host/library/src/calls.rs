@@ -3,30 +3,46 @@
 
 /// Pointer and length of the request, pointer and length of the page, and
 /// where the count of bytes written goes.
-type Call = unsafe extern "C" fn(*const u8, usize, *mut u8, usize, *mut u64) -> u32;
+pub type Call = unsafe extern "C" fn(*const u8, usize, *mut u8, usize, *mut u64) -> u32;
 
-extern "C" {
-    fn pewgull_examine(
-        request: *const u8,
-        request_length: usize,
-        page: *mut u8,
-        page_length: usize,
-        written: *mut u64,
-    ) -> u32;
-    fn pewgull_choose(
-        request: *const u8,
-        request_length: usize,
-        page: *mut u8,
-        page_length: usize,
-        written: *mut u64,
-    ) -> u32;
-    fn pewgull_explain(
-        request: *const u8,
-        request_length: usize,
-        page: *mut u8,
-        page_length: usize,
-        written: *mut u64,
-    ) -> u32;
+/// Declares the archive's functions, all of one shape, and for each a safe
+/// function and a constant that is the archive's own.
+macro_rules! calls {
+    ($($(#[$doc:meta])* $safe:ident, $raw:ident: $symbol:ident;)*) => {
+        extern "C" {
+            $(fn $symbol(
+                request: *const u8,
+                request_length: usize,
+                page: *mut u8,
+                page_length: usize,
+                written: *mut u64,
+            ) -> u32;)*
+        }
+
+        $($(#[$doc])*
+        ///
+        /// Gives the answer's number and the bytes written.
+        pub fn $safe(request: &[u8], page: &mut [u8]) -> (u32, u64) {
+            call($symbol, request, page)
+        }
+
+        /// The archive's function itself.
+        pub const $raw: Call = $symbol;)*
+    };
+}
+
+calls! {
+    /// Examines the candidate of a request of `EXAMINE_LENGTH` bytes and
+    /// writes the listing.
+    examine, EXAMINE: pewgull_examine;
+
+    /// Chooses among all candidates for a request of `CHOOSE_LENGTH` bytes
+    /// and writes the listing.
+    choose, CHOOSE: pewgull_choose;
+
+    /// Writes the `FIGURES_LENGTH` bytes of the figures that the candidate of
+    /// a request of `EXPLAIN_LENGTH` bytes is judged by.
+    explain, EXPLAIN: pewgull_explain;
 }
 
 fn call(function: Call, request: &[u8], page: &mut [u8]) -> (u32, u64) {
@@ -43,23 +59,4 @@ fn call(function: Call, request: &[u8], page: &mut [u8]) -> (u32, u64) {
         )
     };
     (number, written)
-}
-
-/// Examines the candidate of a request of `EXAMINE_LENGTH` bytes and writes
-/// the listing. Gives the answer's number and the bytes written.
-pub fn examine(request: &[u8], page: &mut [u8]) -> (u32, u64) {
-    call(pewgull_examine, request, page)
-}
-
-/// Chooses among all candidates for a request of `CHOOSE_LENGTH` bytes and
-/// writes the listing. Gives the answer's number and the bytes written.
-pub fn choose(request: &[u8], page: &mut [u8]) -> (u32, u64) {
-    call(pewgull_choose, request, page)
-}
-
-/// Writes the `FIGURES_LENGTH` bytes of the figures that the candidate of a
-/// request of `EXPLAIN_LENGTH` bytes is judged by. Gives the answer's number
-/// and the bytes written.
-pub fn explain(request: &[u8], page: &mut [u8]) -> (u32, u64) {
-    call(pewgull_explain, request, page)
 }

@@ -2,9 +2,10 @@
 
 mod calls;
 mod figures;
+pub mod number;
 mod request;
 
-pub use calls::{choose, examine, explain};
+pub use calls::{choose, examine, explain, Call, CHOOSE, EXAMINE, EXPLAIN};
 pub use figures::{Figures, FIGURES_LENGTH};
 pub use request::{
     Candidate, Precipitant, PrimarySettling, Process, Reading, Removal, Request, TankFlow,

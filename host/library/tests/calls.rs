@@ -3,6 +3,7 @@
 mod common;
 
 use common::{case_a, CASE_A_CANDIDATE, CASE_A_LISTING};
+use library::number::*;
 use library::{choose, examine, explain, Candidate, Figures, Request};
 use library::{FIGURES_LENGTH, PAGE_LENGTH};
 
@@ -12,7 +13,7 @@ const UNTOUCHED: u8 = 0xaa;
 fn examines_case_a() {
     let mut page = [UNTOUCHED; PAGE_LENGTH];
     let (number, written) = examine(&case_a().to_examine(CASE_A_CANDIDATE), &mut page);
-    assert_eq!((number, written), (0, CASE_A_LISTING.len() as u64));
+    assert_eq!((number, written), (SHEET, CASE_A_LISTING.len() as u64));
     assert_eq!(&page[..CASE_A_LISTING.len()], CASE_A_LISTING.as_bytes());
     assert!(page[CASE_A_LISTING.len()..]
         .iter()
@@ -24,7 +25,7 @@ fn chooses_for_case_a() {
     let mut page = [UNTOUCHED; PAGE_LENGTH];
     let (number, written) = choose(&case_a().to_choose(), &mut page);
     let listing = &page[..written as usize];
-    assert_eq!(number, 0);
+    assert_eq!(number, SHEET);
     assert!(listing.starts_with(b"fraction 300\nreturn 73\nthickening 21\n"));
 }
 
@@ -32,7 +33,7 @@ fn chooses_for_case_a() {
 fn explains_case_a() {
     let mut page = [UNTOUCHED; FIGURES_LENGTH];
     let (number, written) = explain(&case_a().to_examine(CASE_A_CANDIDATE), &mut page);
-    assert_eq!((number, written), (0, 48));
+    assert_eq!((number, written), (SHEET, 48));
     let figures = Figures {
         nitrate_to_remove: 26_000,
         nitrate_removable: 26_000,
@@ -51,7 +52,10 @@ fn a_refused_explanation_is_zeros() {
         ..CASE_A_CANDIDATE
     };
     let mut page = [UNTOUCHED; FIGURES_LENGTH];
-    assert_eq!(explain(&case_a().to_examine(candidate), &mut page), (6, 48));
+    assert_eq!(
+        explain(&case_a().to_examine(candidate), &mut page),
+        (OFF_GRID, 48)
+    );
     assert_eq!(page, [0; FIGURES_LENGTH]);
 }
 
@@ -59,10 +63,10 @@ fn a_refused_explanation_is_zeros() {
 fn a_short_page_is_left_alone() {
     let request = case_a().to_examine(CASE_A_CANDIDATE);
     let mut page = [UNTOUCHED; 47];
-    assert_eq!(examine(&request, &mut page), (11, 0));
-    assert_eq!(explain(&request, &mut page), (11, 0));
-    assert_eq!(choose(&request[..116], &mut page), (11, 0));
-    assert_eq!(examine(&request, &mut []), (11, 0));
+    assert_eq!(examine(&request, &mut page), (SHORT_PAGE, 0));
+    assert_eq!(explain(&request, &mut page), (SHORT_PAGE, 0));
+    assert_eq!(choose(&request[..116], &mut page), (SHORT_PAGE, 0));
+    assert_eq!(examine(&request, &mut []), (SHORT_PAGE, 0));
     assert_eq!(page, [UNTOUCHED; 47]);
 }
 
@@ -70,16 +74,16 @@ fn a_short_page_is_left_alone() {
 fn malformed_requests_have_their_codes() {
     let mut page = [UNTOUCHED; PAGE_LENGTH];
     let good = case_a().to_examine(CASE_A_CANDIDATE);
-    assert_eq!(examine(&good[..127], &mut page), (101, 0));
-    assert_eq!(examine(&[], &mut page), (101, 0));
-    assert_eq!(choose(&good, &mut page), (101, 0));
-    assert_eq!(explain(&good[..116], &mut page), (101, 0));
+    assert_eq!(examine(&good[..127], &mut page), (BAD_LENGTH, 0));
+    assert_eq!(examine(&[], &mut page), (BAD_LENGTH, 0));
+    assert_eq!(choose(&good, &mut page), (BAD_LENGTH, 0));
+    assert_eq!(explain(&good[..116], &mut page), (BAD_LENGTH, 0));
     let mut other_version = good;
     other_version[0] = 2;
-    assert_eq!(examine(&other_version, &mut page), (102, 0));
+    assert_eq!(examine(&other_version, &mut page), (BAD_VERSION, 0));
     let mut unknown_process = good;
     unknown_process[56] = 5;
-    assert_eq!(examine(&unknown_process, &mut page), (103, 0));
+    assert_eq!(examine(&unknown_process, &mut page), (BAD_KIND, 0));
     assert_eq!(page, [UNTOUCHED; PAGE_LENGTH]);
 }
 
@@ -89,6 +93,15 @@ fn a_refusal_is_listed() {
     let (number, written) = choose(&Request::default().to_choose(), &mut page);
     assert_eq!(
         (number, &page[..written as usize]),
-        (1, &b"refused 1\n"[..])
+        (PLANT_DATA, &b"refused 1\n"[..])
     );
+}
+
+#[test]
+fn numbers_rise_and_have_words() {
+    assert!(ALL.windows(2).all(|pair| pair[0].number < pair[1].number));
+    assert_eq!(word(NO_DESIGN), Some("no design"));
+    assert_eq!(word(12), None);
+    let refusals = ALL.iter().filter(|known| is_refusal(known.number));
+    assert_eq!(refusals.count(), 10);
 }

@@ -1,6 +1,7 @@
 //! The figures that a candidate is judged by, beside their limits.
 
 use crate::json::Value;
+use library::number::{DEPTH, NITRATE, SHEET, SOLIDS, SURFACE};
 use library::{explain, Candidate, Figures, Request, FIGURES_LENGTH};
 
 /// Least solids, g/m3.
@@ -12,7 +13,7 @@ pub const MOST_SLUDGE_VOLUME: u64 = 600;
 pub fn figures(request: &Request, candidate: Candidate) -> Result<Figures, u32> {
     let mut page = [0; FIGURES_LENGTH];
     match explain(&request.to_examine(candidate), &mut page) {
-        (0, _) => Ok(Figures::from_page(&page)),
+        (SHEET, _) => Ok(Figures::from_page(&page)),
         (number, _) => Err(number),
     }
 }
@@ -71,18 +72,18 @@ pub fn lines(request: &Request, figures: &Figures) -> [Line; 6] {
     let site_surface = u64::from(request.site_surface);
     let site_depth = u64::from(request.site_depth);
     [
-        at_most("nitrate-to-remove", remove, removable, "mg/m3", 7),
-        at_least("nitrate-removable", removable, remove, "mg/m3", 7),
-        at_least("solids", solids, LEAST_SOLIDS, "g/m3", 8),
+        at_most("nitrate-to-remove", remove, removable, "mg/m3", NITRATE),
+        at_least("nitrate-removable", removable, remove, "mg/m3", NITRATE),
+        at_least("solids", solids, LEAST_SOLIDS, "g/m3", SOLIDS),
         at_most(
             "sludge-volume",
             sludge_volume,
             MOST_SLUDGE_VOLUME,
             "l/m3",
-            8,
+            SOLIDS,
         ),
-        at_most("surface", surface, site_surface, "m2", 9),
-        at_most("depth", depth, site_depth, "mm", 10),
+        at_most("surface", surface, site_surface, "m2", SURFACE),
+        at_most("depth", depth, site_depth, "mm", DEPTH),
     ]
 }
 

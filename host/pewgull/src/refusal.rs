@@ -1,6 +1,7 @@
 //! What a refusal means, in words, and what to look at.
 
 use crate::explanation::{self, LEAST_SOLIDS, MOST_SLUDGE_VOLUME};
+use library::number::{self, *};
 use library::{Candidate, Figures, Request, TankFlow};
 
 const PLANT_RANGES: &str = "\
@@ -22,42 +23,27 @@ Look at the ranges:
 /// The message of a refusal of 1 to 10.
 pub fn words(number: u32, request: &Request, candidate: Option<Candidate>) -> String {
     let text = match number {
-        1 => format!("a plant or site figure is outside its range.\n  {PLANT_RANGES}"),
-        2 => "the value of a reading is not finite, or it is below zero.\n  \
+        PLANT_DATA => format!("a plant or site figure is outside its range.\n  {PLANT_RANGES}"),
+        NO_NUMBER => "the value of a reading is not finite, or it is below zero.\n  \
               Look at bod, cod, solids, nitrogen and phosphorus: nan, inf, a minus sign,\n  \
               or a value too large for an f32"
             .to_string(),
-        3 => format!(
+        READING_RANGE => format!(
             "a head count or the result of a reading is outside its range.\n  {READING_RANGES}"
         ),
-        4 => "five times the COD is more than eleven times the BOD.\n  \
+        COD_RATIO => "five times the COD is more than eleven times the BOD.\n  \
               Look at cod and bod: cod may be at most 2.2 times bod"
             .to_string(),
-        5 => no_design(request),
-        6 => off_grid(request),
+        NO_DESIGN => no_design(request),
+        OFF_GRID => off_grid(request),
         _ => candidate
             .and_then(|candidate| explanation::figures(request, candidate).ok())
             .map_or_else(String::new, |figures| {
                 broken_limit(number, request, &figures)
             }),
     };
-    format!("refused {number} ({}): {text}", title(number))
-}
-
-fn title(number: u32) -> &'static str {
-    match number {
-        1 => "plant data",
-        2 => "no number",
-        3 => "reading range",
-        4 => "COD ratio",
-        5 => "no design",
-        6 => "off grid",
-        7 => "nitrate",
-        8 => "solids",
-        9 => "surface",
-        10 => "depth",
-        _ => "unknown",
-    }
+    let word = number::word(number).unwrap_or("unknown");
+    format!("refused {number} ({word}): {text}")
 }
 
 fn no_design(request: &Request) -> String {
@@ -87,21 +73,21 @@ fn off_grid(request: &Request) -> String {
 /// Refusals 7 to 10, with the figure and its limit.
 fn broken_limit(number: u32, request: &Request, figures: &Figures) -> String {
     match number {
-        7 => format!(
+        NITRATE => format!(
             "the tank cannot remove enough nitrate.\n  \
              to be removed           {:>8} mg/m3\n  \
              the tank can remove     {:>8} mg/m3\n  \
              Look at a larger F, nitrate-target, nitrogen and bod, design-temperature",
             figures.nitrate_to_remove, figures.nitrate_removable
         ),
-        8 => solids(figures),
-        9 => format!(
+        SOLIDS => solids(figures),
+        SURFACE => format!(
             "the settling tank needs more surface than the site has.\n  \
              needed surface {} m2, site-surface {} m2.\n  \
              Look at site-surface, wet-weather-flow, tank, removal, a smaller R or H",
             figures.surface, request.site_surface
         ),
-        10 => format!(
+        DEPTH => format!(
             "the settling tank needs more depth than the site has.\n  \
              needed depth {} mm, site-depth {} mm.\n  \
              Look at site-depth, R and H, tank, removal",

@@ -5,6 +5,7 @@ use crate::explanation;
 use crate::json::{self, Value};
 use crate::plant_file;
 use crate::refusal;
+use library::number::{is_refusal, SHEET};
 use library::{choose, examine, Candidate, Request, PAGE_LENGTH};
 use std::ffi::OsStr;
 use std::fs::File;
@@ -129,7 +130,7 @@ fn explained(request: &Request, candidate: Candidate) -> Answer {
             let lines = explanation::lines(request, &figures);
             let text: String = lines.iter().map(|line| line.text()).collect();
             Answer {
-                number: 0,
+                number: SHEET,
                 text: text.into_bytes(),
                 members: lines.iter().flat_map(|line| line.members()).collect(),
             }
@@ -144,8 +145,8 @@ fn judged(action: Action, request: &Request, name: &str, number: u32) -> (u8, Ve
         Action::Examine(candidate) | Action::Explain(candidate) => Some(candidate),
     };
     match number {
-        0 => (0, Vec::new()),
-        1..=10 => {
+        SHEET => (0, Vec::new()),
+        _ if is_refusal(number) => {
             let words = refusal::words(number, request, candidate);
             (REFUSED, vec![format!("{name}: {words}")])
         }

@@ -6,34 +6,11 @@ use cases::plants;
 use cases::random::Random;
 use cases::request::*;
 use comparison::stack::stack_of;
+use library::number::{NO_DESIGN, SHEET};
+use library::PAGE_LENGTH as PAGE;
 use std::hint::black_box;
 use std::time::{Duration, Instant};
 
-extern "C" {
-    fn pewgull_examine(
-        request: *const u8,
-        request_length: usize,
-        page: *mut u8,
-        page_length: usize,
-        written: *mut u64,
-    ) -> u32;
-    fn pewgull_choose(
-        request: *const u8,
-        request_length: usize,
-        page: *mut u8,
-        page_length: usize,
-        written: *mut u64,
-    ) -> u32;
-    fn pewgull_explain(
-        request: *const u8,
-        request_length: usize,
-        page: *mut u8,
-        page_length: usize,
-        written: *mut u64,
-    ) -> u32;
-}
-
-const PAGE: usize = 512;
 const ROUNDS: usize = 5;
 /// Least time of a measurement.
 const LEAST_TIME: Duration = Duration::from_millis(300);
@@ -56,8 +33,8 @@ fn benchmark_plants() -> Vec<Request> {
                     .with(PROCESS, process)
                     .with(RETURN_RATIO, 50);
                 let place = match chosen(&plant) {
-                    0 => 0,
-                    5 => 1,
+                    SHEET => 0,
+                    NO_DESIGN => 1,
                     _ => continue,
                 };
                 if left[place] > 0 {
@@ -133,9 +110,9 @@ fn stacks(plants: &[Request]) {
     for plant in plants {
         let (examine, choose) = (plant.examine_bytes(), plant.choose_bytes());
         let taken = [
-            stack_of(pewgull_choose, &choose, &mut page),
-            stack_of(pewgull_examine, &examine, &mut page),
-            stack_of(pewgull_explain, &examine, &mut page),
+            stack_of(library::CHOOSE, &choose, &mut page),
+            stack_of(library::EXAMINE, &examine, &mut page),
+            stack_of(library::EXPLAIN, &examine, &mut page),
         ];
         assert_eq!(taken[0].0, chosen(plant));
         for (most, (_, bytes)) in most.iter_mut().zip(taken) {
@@ -157,7 +134,7 @@ fn main() {
         "{title:<26}{:>14}{:>14}{:>9}",
         "library", "reference", "ratio"
     );
-    let with_design = |plant: &Request| chosen(plant) == 0;
+    let with_design = |plant: &Request| chosen(plant) == SHEET;
     choices("choose, all", &plants, |_| true);
     choices("choose, horizontal flow", &plants, |plant| {
         plant.get(TANK_FLOW) == 0
