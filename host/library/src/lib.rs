@@ -4,6 +4,7 @@ mod calls;
 mod figures;
 pub mod number;
 mod request;
+pub mod sheet;
 
 pub use calls::{choose, examine, explain, Call, CHOOSE, EXAMINE, EXPLAIN};
 pub use figures::{Figures, FIGURES_LENGTH};
@@ -14,3 +15,6 @@ pub use request::{
 
 /// A page of this length takes every listing.
 pub const PAGE_LENGTH: usize = 512;
+
+/// Identity of the kit that proved the calls and built the archive.
+pub const KIT: &str = env!("PEWGULL_KIT");

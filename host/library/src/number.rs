@@ -40,7 +40,7 @@ numbers! {
 /// Whether a number says that the data or the candidate are refused, and
 /// that the refusal is listed.
 pub fn is_refusal(number: u32) -> bool {
-    (PLANT_DATA..=DEPTH).contains(&number)
+    number != SHEET && number != SHORT_PAGE && number < BAD_LENGTH
 }
 
 /// The short word of a number.

@@ -4,8 +4,9 @@ mod common;
 
 use common::{case_a, CASE_A_CANDIDATE, CASE_A_LISTING};
 use library::number::*;
+use library::sheet::{candidates, GRID, LINES};
 use library::{choose, examine, explain, Candidate, Figures, Request};
-use library::{FIGURES_LENGTH, PAGE_LENGTH};
+use library::{TankFlow, FIGURES_LENGTH, PAGE_LENGTH};
 
 const UNTOUCHED: u8 = 0xaa;
 
@@ -104,4 +105,40 @@ fn numbers_rise_and_have_words() {
     assert_eq!(word(12), None);
     let refusals = ALL.iter().filter(|known| is_refusal(known.number));
     assert_eq!(refusals.count(), 10);
+}
+
+#[test]
+fn the_listing_has_its_lines() {
+    let labels: Vec<&str> = CASE_A_LISTING
+        .lines()
+        .map(|line| line.split(' ').next().unwrap())
+        .collect();
+    assert_eq!(labels, LINES.map(|line| line.label));
+}
+
+/// The grid ends where the calls refuse with 6.
+#[test]
+fn the_grid_has_its_sides() {
+    for tank in [TankFlow::Horizontal, TankFlow::Vertical] {
+        let request = Request { tank, ..case_a() };
+        let number = |place: usize, value: u32| {
+            let mut sides = [300, 60, 22];
+            sides[place] = value;
+            let [fraction, return_ratio, thickening] = sides;
+            let candidate = Candidate {
+                fraction,
+                return_ratio,
+                thickening,
+            };
+            assert_eq!(GRID[place].of(&candidate), value);
+            explain(&request.to_examine(candidate), &mut [0; FIGURES_LENGTH]).0
+        };
+        for (place, side) in GRID.iter().enumerate() {
+            let most = side.most(tank);
+            let numbers = [side.least - 1, side.least, most, most + 1].map(|v| number(place, v));
+            assert_eq!(numbers, [OFF_GRID, SHEET, SHEET, OFF_GRID]);
+        }
+    }
+    assert_eq!(candidates(TankFlow::Horizontal), 83_076);
+    assert_eq!(candidates(TankFlow::Vertical), 128_226);
 }

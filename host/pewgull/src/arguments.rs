@@ -1,67 +1,97 @@
-//! The command line.
+//! The command line, and the table of the commands.
 
+use crate::answer::{self, Answer};
 use crate::values;
-use library::Candidate;
+use library::sheet::{Side, GRID};
+use library::{Candidate, Request};
 use std::ffi::OsString;
 
-pub const HELP: &str = "\
-Usage: pewgull choose  [--json] FILE...
-       pewgull examine [--json] FILE F R H
-       pewgull explain [--json] FILE F R H
-
-choose   prints the sheet of the permitted design of least volume
-examine  prints the sheet of one candidate, or the number of its refusal:
-         F fraction in thousandths (200..500), R return ratio in hundredths
-         (30..75, vertical flow 30..100), H thickening in 0.1 h (20..25)
-explain  prints the figures the candidate is judged by, beside their limits
---json   prints one JSON object per file, on a line of its own
-
-A plant file is text, one 'key value' per line; # starts a comment. Keys:
-  load flow wet-weather-flow design-temperature aeration-temperature
-  sludge-volume-index nitrate-target phosphorus-target carbon-peak
-  nitrogen-peak oxygen-saturation site-surface site-depth (whole numbers),
-  process precipitant tank removal primary-settling (a word each),
-  bod cod solids nitrogen phosphorus (measured X, below X or heads N;
-  X in mg/l, or bits: and the eight hex digits of an f32)
-The example's file has all units and words.
-
-Exit status: 0 a sheet (explain: figures), 1 a refusal, 2 a file or usage error
-Example: pewgull examine examples/case-a.plant 300 75 20
-";
-
-#[derive(Clone, Copy, Debug, PartialEq, Eq)]
+/// What a command takes, and the call that answers it.
+#[derive(Clone, Copy)]
 pub enum Action {
-    Choose,
-    Examine(Candidate),
-    Explain(Candidate),
+    /// `FILE...`: each plant by itself
+    Plants(fn(&Request) -> Answer),
+    /// `FILE F R H`: one plant and one candidate
+    Candidate(fn(&Request, Candidate) -> Answer),
 }
 
-#[derive(Clone, Debug, PartialEq, Eq)]
+pub struct Form {
+    pub name: &'static str,
+    pub about: &'static str,
+    pub action: Action,
+}
+
+/// The commands. A new one is an entry here, and its answer.
+pub const COMMANDS: &[Form] = &[
+    Form {
+        name: "choose",
+        about: "prints the sheet of the permitted design of least volume",
+        action: Action::Plants(answer::choose),
+    },
+    Form {
+        name: "examine",
+        about: "prints the sheet of one candidate, or the number of its refusal",
+        action: Action::Candidate(answer::examine),
+    },
+    Form {
+        name: "explain",
+        about: "prints the figures a candidate is judged by, beside their limits",
+        action: Action::Candidate(answer::explain),
+    },
+];
+
+impl Form {
+    /// The words after the command.
+    pub fn words(&self) -> &'static str {
+        match self.action {
+            Action::Plants(_) => "FILE...",
+            Action::Candidate(_) => "FILE F R H",
+        }
+    }
+
+    /// Its files, and its candidate where it takes one.
+    fn read(&self, words: &[OsString]) -> Result<(Vec<OsString>, Option<Candidate>), String> {
+        match self.action {
+            Action::Plants(_) if words.is_empty() => {
+                Err(usage(&format!("expected {} {}", self.name, self.words())))
+            }
+            Action::Plants(_) => Ok((words.to_vec(), None)),
+            Action::Candidate(_) => {
+                let (file, candidate) = one_file(self.name, words)?;
+                Ok((vec![file], Some(candidate)))
+            }
+        }
+    }
+}
+
+/// A command with its words.
 pub struct Command {
     pub action: Action,
     pub json: bool,
     pub files: Vec<OsString>,
+    pub candidate: Option<Candidate>,
 }
 
-#[derive(Clone, Debug, PartialEq, Eq)]
 pub enum Order {
+    /// The short help of `--help`
     Help,
+    /// `help`: everything
+    Manual,
+    Version,
     Run(Command),
 }
 
 /// The words without options. Options may stand anywhere before `--`.
+#[derive(Default)]
 struct Words {
     help: bool,
+    version: bool,
     json: bool,
     plain: Vec<OsString>,
 }
 
 fn sort(words: &[OsString]) -> Result<Words, String> {
-    let mut sorted = Words {
-        help: false,
-        json: false,
-        plain: Vec::new(),
-    };
+    let mut sorted = Words::default();
     let mut options_ended = false;
     for word in words {
         let text = word.to_string_lossy();
@@ -69,10 +99,11 @@ fn sort(words: &[OsString]) -> Result<Words, String> {
             _ if options_ended => sorted.plain.push(word.clone()),
             "--" => options_ended = true,
             "--help" | "-h" => sorted.help = true,
+            "--version" => sorted.version = true,
             "--json" => sorted.json = true,
             option if is_option(option) => {
                 return Err(usage(&format!(
-                    "'{}' is no option; expected --json or --help",
+                    "'{}' is no option; expected --json, --help or --version",
                     values::shown(option)
                 )))
             }
@@ -82,7 +113,8 @@ fn sort(words: &[OsString]) -> Result<Words, String> {
     Ok(sorted)
 }
 
-/// A negative number is no option: it is told of as a number.
+/// A negative number is no option: it is told of as a number. A hyphen alone
+/// is standard input.
 fn is_option(word: &str) -> bool {
     word.starts_with('-') && word.len() > 1 && !word[1..].starts_with(|c: char| c.is_ascii_digit())
 }
@@ -91,38 +123,41 @@ fn usage(message: &str) -> String {
     format!("{message}; see pewgull --help")
 }
 
+/// The names of the commands, as a message lists them.
+fn names() -> String {
+    let names: Vec<&str> = COMMANDS.iter().map(|form| form.name).collect();
+    format!("{} or help", names.join(", "))
+}
+
 /// Reads the words after the tool's name. The error says what was expected.
 pub fn parse(words: &[OsString]) -> Result<Order, String> {
     let sorted = sort(words)?;
     if sorted.help {
         return Ok(Order::Help);
     }
+    if sorted.version {
+        return Ok(Order::Version);
+    }
     let Some((name, rest)) = sorted.plain.split_first() else {
-        return Err(usage("no command; expected choose, examine or explain"));
+        return Err(usage(&format!("no command; expected {}", names())));
     };
-    let (action, files) = match name.to_string_lossy().as_ref() {
-        "choose" if rest.is_empty() => return Err(usage("expected choose FILE...")),
-        "choose" => (Action::Choose, rest.to_vec()),
-        "examine" => {
-            let (file, candidate) = one_file("examine", rest)?;
-            (Action::Examine(candidate), vec![file])
-        }
-        "explain" => {
-            let (file, candidate) = one_file("explain", rest)?;
-            (Action::Explain(candidate), vec![file])
-        }
-        other => {
-            return Err(usage(&format!(
-                "'{}' is no command; expected choose, examine or explain",
-                values::shown(other)
-            )))
-        }
+    let name = name.to_string_lossy();
+    if name == "help" {
+        return Ok(Order::Manual);
+    }
+    let Some(form) = COMMANDS.iter().find(|form| form.name == name) else {
+        let name = values::shown(&name);
+        return Err(usage(&format!(
+            "'{name}' is no command; expected {}",
+            names()
+        )));
     };
-    let json = sorted.json;
+    let (files, candidate) = form.read(rest)?;
     Ok(Order::Run(Command {
-        action,
-        json,
+        action: form.action,
+        json: sorted.json,
         files,
+        candidate,
     }))
 }
 
@@ -134,18 +169,26 @@ fn one_file(name: &str, words: &[OsString]) -> Result<(OsString, Candidate), Str
             words.len()
         )));
     };
+    let [first, second, third] = &GRID;
     let candidate = Candidate {
-        fraction: number("fraction F", fraction)?,
-        return_ratio: number("return ratio R", return_ratio)?,
-        thickening: number("thickening time H", thickening)?,
+        fraction: number(first, fraction)?,
+        return_ratio: number(second, return_ratio)?,
+        thickening: number(third, thickening)?,
     };
     Ok((file.clone(), candidate))
 }
 
-fn number(name: &str, word: &OsString) -> Result<u32, String> {
+fn number(side: &Side, word: &OsString) -> Result<u32, String> {
     values::whole(&word.to_string_lossy()).map_err(|wrong| {
+        let Side {
+            letter,
+            meaning,
+            unit,
+            ..
+        } = side;
+        let range = side.range();
         usage(&format!(
-            "{name}: {wrong}; expected a whole number from 0 to 4294967295"
+            "{meaning} {letter}: {wrong}; expected a whole number, {range}, in {unit}"
         ))
     })
 }

@@ -6,8 +6,16 @@ pub enum Value {
     Text(String),
 }
 
+/// A key and its value.
+pub type Member = (String, Value);
+
+/// A member whose value is text.
+pub fn text(key: &str, value: &str) -> Member {
+    (key.to_string(), Value::Text(value.to_string()))
+}
+
 /// One object on a line.
-pub fn object(members: &[(String, Value)]) -> String {
+pub fn object(members: &[Member]) -> String {
     let members: Vec<String> = members
         .iter()
         .map(|(key, value)| match value {
@@ -19,7 +27,7 @@ pub fn object(members: &[(String, Value)]) -> String {
 }
 
 /// The labels and numbers of a listing.
-pub fn members(listing: &str) -> Vec<(String, Value)> {
+pub fn members(listing: &str) -> Vec<Member> {
     listing
         .lines()
         .filter_map(|line| line.split_once(' '))
@@ -36,7 +44,8 @@ fn quoted(text: &str) -> String {
         match c {
             '"' => out.push_str("\\\""),
             '\\' => out.push_str("\\\\"),
-            c if c < ' ' => out.push_str(&format!("\\u{:04x}", u32::from(c))),
+            '\n' => out.push_str("\\n"),
+            c if c.is_control() => out.push_str(&format!("\\u{:04x}", u32::from(c))),
             c => out.push(c),
         }
     }
@@ -56,6 +65,9 @@ mod tests {
 
     #[test]
     fn text_is_quoted() {
-        assert_eq!(quoted("a\"b\\c\n\u{e4}"), "\"a\\\"b\\\\c\\u000a\u{e4}\"");
+        assert_eq!(
+            quoted("a\"b\\c\n\u{1b}\u{e4}"),
+            "\"a\\\"b\\\\c\\n\\u001b\u{e4}\""
+        );
     }
 }

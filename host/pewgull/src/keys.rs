@@ -3,38 +3,90 @@
 use crate::values;
 use library::{Precipitant, PrimarySettling, Process, Reading, Removal, Request, TankFlow};
 
+/// A range of whole numbers and what they count.
+#[derive(Clone, Copy, Debug, PartialEq, Eq)]
+pub struct Range {
+    pub least: u32,
+    pub most: u32,
+    pub unit: &'static str,
+}
+
+impl Range {
+    pub fn holds(&self, value: u32) -> bool {
+        (self.least..=self.most).contains(&value)
+    }
+
+    /// Its two ends.
+    pub fn digits(&self) -> String {
+        format!("{}..{}", self.least, self.most)
+    }
+}
+
+/// Range of a head count.
+pub const HEADS: Range = Range {
+    least: 1,
+    most: 2_000_000,
+    unit: "heads",
+};
+
 /// What a key takes, and where it goes in the request.
 pub enum Field {
-    /// A whole number in this unit
-    Whole(&'static str, fn(&mut Request) -> &mut u32),
+    /// A whole number in this range
+    Whole(Range, fn(&mut Request) -> &mut u32),
     /// One of these words; the setter takes the word's place
     Word(&'static [&'static str], fn(&mut Request, usize)),
-    /// A lab reading
-    Reading(fn(&mut Request) -> &mut Reading),
+    /// A lab reading whose result is in this range
+    Reading(Range, fn(&mut Request) -> &mut Reading),
 }
 
 pub struct Key {
     pub name: &'static str,
+    pub meaning: &'static str,
     pub field: Field,
 }
 
-const fn whole(name: &'static str, unit: &'static str, field: fn(&mut Request) -> &mut u32) -> Key {
-    let field = Field::Whole(unit, field);
-    Key { name, field }
+const fn whole(
+    name: &'static str,
+    meaning: &'static str,
+    (least, most, unit): (u32, u32, &'static str),
+    at: fn(&mut Request) -> &mut u32,
+) -> Key {
+    let field = Field::Whole(Range { least, most, unit }, at);
+    Key {
+        name,
+        meaning,
+        field,
+    }
 }
 
 const fn word(
     name: &'static str,
+    meaning: &'static str,
     words: &'static [&'static str],
     set: fn(&mut Request, usize),
 ) -> Key {
     let field = Field::Word(words, set);
-    Key { name, field }
+    Key {
+        name,
+        meaning,
+        field,
+    }
 }
 
-const fn reading(name: &'static str, field: fn(&mut Request) -> &mut Reading) -> Key {
-    let field = Field::Reading(field);
-    Key { name, field }
+/// The range of its result in mg/l.
+const fn reading(
+    name: &'static str,
+    meaning: &'static str,
+    (least, most): (u32, u32),
+    at: fn(&mut Request) -> &mut Reading,
+) -> Key {
+    let unit = "mg/l";
+    let field = Field::Reading(Range { least, most, unit }, at);
+    Key {
+        name,
+        meaning,
+        field,
+    }
 }
 
 const PROCESSES: [Process; 5] = [
@@ -61,44 +113,34 @@ const PROCESS_WORDS: &[&str] = &[
     "step-feed-three",
 ];
 
+const DEGREES: (u32, u32, &str) = (10, 20, "degrees Celsius");
+const PEAK: (u32, u32, &str) = (100, 300, "hundredths");
+
+#[rustfmt::skip]
 pub const KEYS: [Key; 23] = [
-    whole("load", "kg/d", |r| &mut r.load),
-    whole("flow", "m3/d", |r| &mut r.flow),
-    whole("wet-weather-flow", "m3/h", |r| &mut r.wet_weather_flow),
-    whole("design-temperature", "degrees Celsius", |r| {
-        &mut r.design_temperature
-    }),
-    whole("aeration-temperature", "degrees Celsius", |r| {
-        &mut r.aeration_temperature
-    }),
-    whole("sludge-volume-index", "l/kg", |r| {
-        &mut r.sludge_volume_index
-    }),
-    whole("nitrate-target", "mg/m3", |r| &mut r.nitrate_target),
-    whole("phosphorus-target", "mg/m3", |r| &mut r.phosphorus_target),
-    whole("carbon-peak", "hundredths", |r| &mut r.carbon_peak),
-    whole("nitrogen-peak", "hundredths", |r| &mut r.nitrogen_peak),
-    whole("oxygen-saturation", "mg/m3", |r| &mut r.oxygen_saturation),
-    whole("site-surface", "m2", |r| &mut r.site_surface),
-    whole("site-depth", "mm", |r| &mut r.site_depth),
-    word("process", PROCESS_WORDS, |r, i| r.process = PROCESSES[i]),
-    word("precipitant", &["iron", "aluminium"], |r, i| {
-        r.precipitant = PRECIPITANTS[i]
-    }),
-    word("tank", &["horizontal", "vertical"], |r, i| {
-        r.tank = TANKS[i]
-    }),
-    word("removal", &["scraper", "suction", "hopper"], |r, i| {
-        r.removal = REMOVALS[i]
-    }),
-    word("primary-settling", &["none", "short", "long"], |r, i| {
-        r.primary_settling = SETTLINGS[i]
-    }),
-    reading("bod", |r| &mut r.bod),
-    reading("cod", |r| &mut r.cod),
-    reading("solids", |r| &mut r.solids),
-    reading("nitrogen", |r| &mut r.nitrogen),
-    reading("phosphorus", |r| &mut r.phosphorus),
+    whole("load", "raw BOD5 load", (1, 100_000, "kg/d"), |r| &mut r.load),
+    whole("flow", "daily flow", (1, 200_000, "m3/d"), |r| &mut r.flow),
+    whole("wet-weather-flow", "wet weather flow", (1, 50_000, "m3/h"), |r| &mut r.wet_weather_flow),
+    whole("design-temperature", "design temperature", DEGREES, |r| &mut r.design_temperature),
+    whole("aeration-temperature", "aeration temperature", DEGREES, |r| &mut r.aeration_temperature),
+    whole("sludge-volume-index", "sludge volume index", (50, 200, "l/kg"), |r| &mut r.sludge_volume_index),
+    whole("nitrate-target", "nitrate target", (1_000, 50_000, "mg/m3"), |r| &mut r.nitrate_target),
+    whole("phosphorus-target", "phosphorus target", (0, 100_000, "mg/m3"), |r| &mut r.phosphorus_target),
+    whole("carbon-peak", "carbon peak factor", PEAK, |r| &mut r.carbon_peak),
+    whole("nitrogen-peak", "nitrogen peak factor", PEAK, |r| &mut r.nitrogen_peak),
+    whole("oxygen-saturation", "oxygen saturation", (6_000, 15_000, "mg/m3"), |r| &mut r.oxygen_saturation),
+    whole("site-surface", "largest settling surface", (1, 100_000, "m2"), |r| &mut r.site_surface),
+    whole("site-depth", "largest settling depth", (3_000, 10_000, "mm"), |r| &mut r.site_depth),
+    word("process", "process", PROCESS_WORDS, |r, i| r.process = PROCESSES[i]),
+    word("precipitant", "precipitant", &["iron", "aluminium"], |r, i| r.precipitant = PRECIPITANTS[i]),
+    word("tank", "tank flow", &["horizontal", "vertical"], |r, i| r.tank = TANKS[i]),
+    word("removal", "sludge removal", &["scraper", "suction", "hopper"], |r, i| r.removal = REMOVALS[i]),
+    word("primary-settling", "primary settling", &["none", "short", "long"], |r, i| r.primary_settling = SETTLINGS[i]),
+    reading("bod", "BOD", (20, 2_000), |r| &mut r.bod),
+    reading("cod", "COD", (20, 4_400), |r| &mut r.cod),
+    reading("solids", "solids", (0, 2_000), |r| &mut r.solids),
+    reading("nitrogen", "nitrogen", (0, 500), |r| &mut r.nitrogen),
+    reading("phosphorus", "phosphorus", (0, 100), |r| &mut r.phosphorus),
 ];
 
 impl Key {
@@ -106,13 +148,19 @@ impl Key {
     pub fn expected(&self) -> String {
         let name = self.name;
         match &self.field {
-            Field::Whole(unit, _) => {
-                format!("'{name} N', N a whole number from 0 to 4294967295 in {unit}, digits alone")
+            Field::Whole(Range { least, most, unit }, _) => {
+                format!(
+                    "'{name} N', N a whole number from {least} to {most} in {unit}, digits alone"
+                )
             }
             Field::Word(words, _) => format!("'{name}' and one of {}", words.join(", ")),
-            Field::Reading(_) => format!(
+            Field::Reading(range, _) => format!(
                 "'{name} measured X', '{name} below X' (X in mg/l, with a decimal point, \
-                 or bits: and eight hex digits) or '{name} heads N'"
+                 or bits: and eight hex digits) or '{name} heads N' (N from {} to {}), \
+                 for a result of {} mg/l",
+                HEADS.least,
+                HEADS.most,
+                range.digits()
             ),
         }
     }
@@ -122,7 +170,7 @@ impl Key {
         match &self.field {
             Field::Whole(_, field) => *field(request) = values::whole(single(value)?)?,
             Field::Word(words, set) => set(request, place(words, single(value)?)?),
-            Field::Reading(field) => *field(request) = values::reading(value)?,
+            Field::Reading(_, field) => *field(request) = values::reading(value)?,
         }
         Ok(())
     }

@@ -1,7 +1,10 @@
 //! The command-line tool: it parses, calls the library and prints.
 
+pub mod answer;
 pub mod arguments;
+pub mod culprit;
 pub mod explanation;
+pub mod help;
 pub mod json;
 pub mod keys;
 pub mod plant_file;

@@ -1,6 +1,9 @@
 //! Prints what the command says, and ends with its exit status.
 
-use pewgull::arguments::{self, Order, HELP};
+mod closed;
+
+use pewgull::arguments::{self, Order};
+use pewgull::help;
 use pewgull::run::{self, Outcome, FILE_ERROR};
 use std::env;
 use std::io::{self, ErrorKind, Write};
@@ -8,6 +11,10 @@ use std::process::ExitCode;
 
 /// Prints to standard output. A reader that has gone is not worth a message.
 fn print(bytes: &[u8]) -> Result<(), ()> {
+    if closed::standard_output() {
+        warn("cannot write to standard output: it is closed");
+        return Err(());
+    }
     let mut out = io::stdout().lock();
     let done = out.write_all(bytes).and_then(|()| out.flush());
     done.map_err(|error| {
@@ -37,7 +44,9 @@ fn run() -> Result<u8, ()> {
             warn(&message);
             Ok(FILE_ERROR)
         }
-        Ok(Order::Help) => print(HELP.as_bytes()).map(|()| 0),
+        Ok(Order::Help) => print(help::short().as_bytes()).map(|()| 0),
+        Ok(Order::Manual) => print(help::manual().as_bytes()).map(|()| 0),
+        Ok(Order::Version) => print(help::version().as_bytes()).map(|()| 0),
         Ok(Order::Run(command)) => {
             let mut status = 0;
             for file in &command.files {

@@ -1,12 +1,13 @@
 //! One command on one file.
 
+use crate::answer::Answer;
 use crate::arguments::{Action, Command};
-use crate::explanation;
-use crate::json::{self, Value};
+use crate::json::{self, Member, Value};
 use crate::plant_file;
 use crate::refusal;
-use library::number::{is_refusal, SHEET};
-use library::{choose, examine, Candidate, Request, PAGE_LENGTH};
+use crate::values::escaped;
+use library::number::{self, is_refusal, SHEET};
+use library::{Candidate, Request};
 use std::ffi::OsStr;
 use std::fs::File;
 use std::io::{self, ErrorKind, Read};
@@ -26,49 +27,98 @@ pub struct Outcome {
     pub messages: Vec<String>,
 }
 
-/// The library's answer: its number, and the text of the listing or of the
-/// figures with the members of the JSON object.
-struct Answer {
-    number: u32,
+/// What came of a file, before it is printed.
+struct Found {
+    status: u8,
     text: Vec<u8>,
-    members: Vec<(String, Value)>,
+    members: Vec<Member>,
+    messages: Vec<String>,
 }
 
 /// Runs the command on one of its files.
 pub fn answer(command: &Command, file: &OsStr) -> Outcome {
     let name = file.to_string_lossy();
-    let several = command.files.len() > 1;
-    let heading = match several && !command.json {
-        true => format!("# {name}\n").into_bytes(),
-        false => Vec::new(),
+    let result = match read(file) {
+        Ok(request) => answered(command, &request, &escaped(&name)),
+        Err(messages) => error(messages),
     };
-    let request = match read(file) {
-        Ok(request) => request,
-        Err(messages) => {
-            return Outcome {
-                status: FILE_ERROR,
-                printed: heading,
-                messages,
-            }
-        }
-    };
-    let answer = call(command.action, &request);
-    let (status, messages) = judged(command.action, &request, &name, answer.number);
     let printed = match command.json {
-        _ if status == FILE_ERROR => heading,
-        false => [heading, answer.text].concat(),
-        true => object(several.then_some(name.as_ref()), answer.members),
+        true => {
+            let mut members = vec![json::text("file", &name)];
+            members.extend(result.members);
+            json::object(&members).into_bytes()
+        }
+        false if command.files.len() > 1 => {
+            let heading = format!("# {}\n", escaped(&name));
+            [heading.as_bytes(), &result.text].concat()
+        }
+        false => result.text,
     };
     Outcome {
-        status,
+        status: result.status,
         printed,
+        messages: result.messages,
+    }
+}
+
+/// A file that cannot be answered for: nothing is printed but the object.
+fn error(messages: Vec<String>) -> Found {
+    Found {
+        status: FILE_ERROR,
+        text: Vec::new(),
+        members: vec![
+            json::text("status", "error"),
+            json::text("message", &messages.join("\n")),
+        ],
         messages,
+    }
+}
+
+/// The library's answer to a request.
+fn answered(command: &Command, request: &Request, name: &str) -> Found {
+    let answer = match (command.action, command.candidate) {
+        (Action::Plants(call), _) => call(request),
+        (Action::Candidate(call), Some(candidate)) => call(request, candidate),
+        (Action::Candidate(_), None) => return error(vec!["the candidate is missing".to_string()]),
+    };
+    match answer.number {
+        SHEET => {
+            let mut members = vec![json::text("status", answer.kind)];
+            members.extend(answer.members);
+            Found {
+                status: 0,
+                text: answer.text,
+                members,
+                messages: Vec::new(),
+            }
+        }
+        number if is_refusal(number) => refused(answer, request, command.candidate, name),
+        number => error(vec![format!(
+            "{name}: the library answered {number}, expected a sheet or a refusal; \
+             its archive and this tool are of different versions"
+        )]),
+    }
+}
+
+fn refused(answer: Answer, request: &Request, candidate: Option<Candidate>, name: &str) -> Found {
+    let number = answer.number;
+    let message = format!("{name}: {}", refusal::words(number, request, candidate));
+    Found {
+        status: REFUSED,
+        text: answer.text,
+        members: vec![
+            json::text("status", "refused"),
+            ("number".to_string(), Value::Number(number.into())),
+            json::text("word", number::word(number).unwrap_or_default()),
+            json::text("message", &message),
+        ],
+        messages: vec![message],
     }
 }
 
 /// Reads and parses a plant file.
 fn read(file: &OsStr) -> Result<Request, Vec<String>> {
-    let name = file.to_string_lossy();
+    let name = escaped(&file.to_string_lossy());
     let bytes = contents(file)
         .map_err(|error| vec![format!("{name}: {}; expected a plant file", reason(&error))])?;
     plant_file::parse(&bytes).map_err(|faults| {
@@ -89,83 +139,20 @@ fn reason(error: &io::Error) -> String {
     }
 }
 
+/// The bytes of a file; `-` is standard input.
 fn contents(file: &OsStr) -> io::Result<Vec<u8>> {
+    if file == "-" {
+        bounded(io::stdin().lock())
+    } else {
+        bounded(File::open(file)?)
+    }
+}
+
+fn bounded(source: impl Read) -> io::Result<Vec<u8>> {
     let mut bytes = Vec::new();
-    File::open(file)?
-        .take(LONGEST_FILE + 1)
-        .read_to_end(&mut bytes)?;
+    source.take(LONGEST_FILE + 1).read_to_end(&mut bytes)?;
     if bytes.len() as u64 > LONGEST_FILE {
         return Err(io::Error::other("longer than 1 MiB"));
     }
     Ok(bytes)
-}
-
-fn call(action: Action, request: &Request) -> Answer {
-    let mut page = [0; PAGE_LENGTH];
-    match action {
-        Action::Choose => {
-            let (number, written) = choose(&request.to_choose(), &mut page);
-            listed(number, &page[..written as usize])
-        }
-        Action::Examine(candidate) => {
-            let (number, written) = examine(&request.to_examine(candidate), &mut page);
-            listed(number, &page[..written as usize])
-        }
-        Action::Explain(candidate) => explained(request, candidate),
-    }
-}
-
-fn listed(number: u32, listing: &[u8]) -> Answer {
-    Answer {
-        number,
-        text: listing.to_vec(),
-        members: json::members(&String::from_utf8_lossy(listing)),
-    }
-}
-
-fn explained(request: &Request, candidate: Candidate) -> Answer {
-    match explanation::figures(request, candidate) {
-        Err(number) => listed(number, format!("refused {number}\n").as_bytes()),
-        Ok(figures) => {
-            let lines = explanation::lines(request, &figures);
-            let text: String = lines.iter().map(|line| line.text()).collect();
-            Answer {
-                number: SHEET,
-                text: text.into_bytes(),
-                members: lines.iter().flat_map(|line| line.members()).collect(),
-            }
-        }
-    }
-}
-
-/// Exit status and messages of an answer's number.
-fn judged(action: Action, request: &Request, name: &str, number: u32) -> (u8, Vec<String>) {
-    let candidate = match action {
-        Action::Choose => None,
-        Action::Examine(candidate) | Action::Explain(candidate) => Some(candidate),
-    };
-    match number {
-        SHEET => (0, Vec::new()),
-        _ if is_refusal(number) => {
-            let words = refusal::words(number, request, candidate);
-            (REFUSED, vec![format!("{name}: {words}")])
-        }
-        _ => {
-            let message = format!(
-                "{name}: the library answered {number}, expected 0 to 10; \
-                 its archive and this tool are of different versions"
-            );
-            (FILE_ERROR, vec![message])
-        }
-    }
-}
-
-/// The JSON object, with the file's name where there are several.
-fn object(file: Option<&str>, members: Vec<(String, Value)>) -> Vec<u8> {
-    let mut all = Vec::new();
-    if let Some(name) = file {
-        all.push(("file".to_string(), Value::Text(name.to_string())));
-    }
-    all.extend(members);
-    json::object(&all).into_bytes()
 }

@@ -59,6 +59,18 @@ pub fn shown(word: &str) -> String {
     text
 }
 
+/// A file's name as it can stand in a message: control characters escaped.
+pub fn escaped(name: &str) -> String {
+    let mut text = String::new();
+    for c in name.chars() {
+        match c.is_control() {
+            true => text.extend(c.escape_default()),
+            false => text.push(c),
+        }
+    }
+    text
+}
+
 #[cfg(test)]
 mod tests {
     use super::*;
@@ -147,6 +159,11 @@ mod tests {
         for (words, expected) in wrong {
             assert!(reading(words).unwrap_err().contains(expected), "{words:?}");
         }
+    }
+
+    #[test]
+    fn names_are_escaped() {
+        assert_eq!(escaped("a\nb\u{1b}[1m\u{e4}"), "a\\nb\\u{1b}[1m\u{e4}");
     }
 
     #[test]

@@ -41,6 +41,7 @@ fn explain_prints_figures_beside_limits() {
         "sludge-volume 378 at most 600 l/m3 kept",
         "surface 454 at most 1000 m2 kept",
         "depth 4537 at most 5000 mm kept",
+        "verdict 0",
     ];
     assert_eq!(
         lines
@@ -69,6 +70,7 @@ fn explain_tells_every_broken_limit() {
             .unwrap();
         assert!(line.ends_with(verdict), "{line}");
     }
+    assert!(ran.out.ends_with("\nverdict 7\n"), "{}", ran.out);
 }
 
 /// A refusal by examine: its number, the key whose line is replaced, the
@@ -81,77 +83,23 @@ type Refused = (
     &'static [&'static str],
 );
 
-const REFUSALS: [Refused; 10] = [
-    (
-        1,
-        "load",
-        "load 0",
-        "300",
-        &["plant data", "load 1..100000 kg/d"],
-    ),
-    (
-        2,
-        "bod",
-        "bod measured nan",
-        "300",
-        &["no number", "not finite"],
-    ),
-    (
-        2,
-        "bod",
-        "bod below -1",
-        "300",
-        &["no number", "below zero"],
-    ),
-    (
-        3,
-        "bod",
-        "bod measured 19",
-        "300",
-        &["reading range", "bod 20..2000"],
-    ),
-    (
-        3,
-        "bod",
-        "bod heads 0",
-        "300",
-        &["reading range", "heads 1..2000000"],
-    ),
-    (
-        4,
-        "cod",
-        "cod measured 440.1",
-        "300",
-        &["COD ratio", "2.2 times bod"],
-    ),
-    (
-        6,
-        "load",
-        "load 1200",
-        "501",
-        &["off grid", "F 200..500", "R 30..75"],
-    ),
-    (
-        7,
-        "load",
-        "load 1200",
-        "299",
-        &["nitrate", "26000 mg/m3", "25800 mg/m3"],
-    ),
-    (
-        9,
-        "site-surface",
-        "site-surface 453",
-        "300",
-        &["surface 454 m2", "site-surface 453 m2"],
-    ),
-    (
-        10,
-        "site-depth",
-        "site-depth 4536",
-        "300",
-        &["depth 4537 mm", "site-depth 4536 mm"],
-    ),
+#[rustfmt::skip]
+const REFUSALS: [Refused; 15] = [
+    (1, "load", "load 0", "300", &["plant data", "\n  load 0: expected 1..100000 kg/d\n"]),
+    (1, "flow", "flow 4294967295", "300", &["flow 4294967295: expected 1..200000 m3/d"]),
+    (2, "bod", "bod measured nan", "300", &["no number", "bod measured NaN: expected a finite number"]),
+    (2, "cod", "cod below -1", "300", &["no number", "cod below -1: expected", "not below zero"]),
+    (3, "bod", "bod measured 19", "300", &["reading range", "bod measured 19 comes to 19.000 mg/l: expected 20..2000 mg/l"]),
+    (3, "bod", "bod below 39.9985", "300", &["bod below 39.9985 comes to half of it, 19.999 mg/l: expected 20..2000"]),
+    (3, "bod", "bod heads 0", "300", &["reading range", "bod heads 0: expected 1..2000000"]),
+    (3, "cod", "cod heads 830", "300", &["cod heads 830 comes to 19.920 mg/l: expected 20..4400 mg/l"]),
+    (3, "solids", "solids measured 1e38", "300", &["solids measured 1e38 comes to 1.000e38 mg/l: expected 0..2000 mg/l"]),
+    (4, "cod", "cod measured 440.1", "300", &["COD ratio", "cod 440.100 mg/l, bod 200.000 mg/l", "2.2 times bod"]),
+    (6, "load", "load 1200", "501", &["off grid", "F 501: expected 200..500 thousandths"]),
+    (7, "load", "load 1200", "299", &["nitrate", "26000 mg/m3", "25800 mg/m3", "a larger F"]),
+    (7, "nitrogen", "nitrogen measured 100", "500", &["nitrate", "Look at nitrate-target"]),
+    (9, "site-surface", "site-surface 453", "300", &["surface 454 m2", "site-surface 453 m2", "a smaller R\n"]),
+    (10, "site-depth", "site-depth 4536", "300", &["depth 4537 mm", "site-depth 4536 mm"]),
 ];
 
 #[test]
@@ -172,6 +120,33 @@ fn refusals_are_told_in_words() {
             "{}",
             ran.err
         );
+    }
+}
+
+/// Nothing is advised that the grid has no room for.
+#[test]
+fn no_move_leaves_the_grid() {
+    let poor = file("poor.plant", with("nitrogen", "nitrogen measured 100"));
+    let at_499 = pewgull(&["examine", &poor, "499", "75", "20"]);
+    assert!(at_499.err.contains("a larger F"), "{}", at_499.err);
+    let at_500 = pewgull(&["examine", &poor, "500", "75", "20"]);
+    assert!(!at_500.err.contains("larger"), "{}", at_500.err);
+    let small = file("small.plant", with("site-surface", "site-surface 1"));
+    let corner = pewgull(&["examine", &small, "300", "30", "20"]);
+    assert_eq!(corner.out, "refused 9\n");
+    assert!(!corner.err.contains("smaller"), "{}", corner.err);
+}
+
+#[test]
+fn every_culprit_among_plant_figures_is_named() {
+    let text = with("load", "load 0").replace("site-depth 5000", "site-depth 2999");
+    let ran = pewgull(&["choose", &file("two.plant", text)]);
+    assert_eq!((ran.status, ran.out.as_str()), (1, "refused 1\n"));
+    for line in [
+        "load 0: expected 1..100000 kg/d",
+        "site-depth 2999: expected 3000..10000 mm",
+    ] {
+        assert!(ran.err.contains(line), "{}", ran.err);
     }
 }
 
@@ -241,35 +216,18 @@ fn several_files_have_headings_and_the_largest_status() {
     assert_eq!(pewgull(&["choose", &good, &good]).status, 0);
 }
 
+#[rustfmt::skip]
 const USAGE_ERRORS: [(&str, &str); 10] = [
-    ("", "no command; expected choose, examine or explain"),
-    (
-        "chose",
-        "'chose' is no command; expected choose, examine or explain",
-    ),
+    ("", "no command; expected choose, examine, explain or help"),
+    ("chose", "'chose' is no command; expected choose, examine, explain or help"),
     ("choose", "expected choose FILE..."),
-    (
-        "choose --jsno F",
-        "'--jsno' is no option; expected --json or --help",
-    ),
-    (
-        "examine F",
-        "expected examine FILE F R H, one file and three numbers (words given: 1)",
-    ),
+    ("choose --jsno F", "'--jsno' is no option; expected --json, --help or --version"),
+    ("examine F", "expected examine FILE F R H, one file and three numbers (words given: 1)"),
     ("explain F 300 75", "expected explain FILE F R H"),
     ("examine F 300 75 20 1", "expected examine FILE F R H"),
-    (
-        "examine F -300 75 20",
-        "fraction F: '-300' is not a whole number; expected",
-    ),
-    (
-        "examine F 300 0.75 20",
-        "return ratio R: '0.75' is not a whole number",
-    ),
-    (
-        "examine F 300 75 4294967296",
-        "thickening time H: '4294967296' is too large",
-    ),
+    ("examine F -300 75 20", "fraction F: '-300' is not a whole number; expected a whole number, 200..500,"),
+    ("examine F 300 0.75 20", "return ratio R: '0.75' is not a whole number; expected a whole number, 30..75 (vert"),
+    ("examine F 300 75 4294967296", "thickening time H: '4294967296' is too large; expected a whole number, 20..25"),
 ];
 
 #[test]
@@ -305,6 +263,31 @@ fn help_fits_a_screen() {
 }
 
 #[test]
+fn versions() {
+    let ran = pewgull(&["--version"]);
+    assert_eq!((ran.status, ran.err.as_str()), (0, ""));
+    let kit = std::fs::read_to_string(common::repository().join("host/lib/kit")).unwrap();
+    let tool = env!("CARGO_PKG_VERSION");
+    assert_eq!(
+        ran.out,
+        format!("pewgull {tool}\nrequest {}\nkit {kit}", library::VERSION)
+    );
+}
+
+#[test]
+fn a_hyphen_is_standard_input() {
+    let mut tool = Command::new(env!("CARGO_BIN_EXE_pewgull"));
+    tool.args(["choose", "-"]);
+    let ran = common::ran(
+        tool.stdin(File::open(example("case-a.plant")).unwrap())
+            .output()
+            .unwrap(),
+    );
+    assert_eq!((ran.status, ran.err.as_str()), (0, ""));
+    assert!(ran.out.starts_with(CHOSEN));
+}
+
+#[test]
 fn options_end_at_two_hyphens() {
     let mut tool = Command::new(env!("CARGO_BIN_EXE_pewgull"));
     file("-odd.plant", CASE_A);
@@ -326,5 +309,50 @@ fn output_that_cannot_be_written_is_an_error() {
         ran.err.contains("cannot write to standard output"),
         "{}",
         ran.err
+    );
+}
+
+#[test]
+fn closed_output_is_an_error() {
+    for words in ["choose \"$1\"", "--help"] {
+        let line = format!("exec \"$0\" {words} >&-");
+        let path = example("case-a.plant");
+        let tool = env!("CARGO_BIN_EXE_pewgull");
+        let ran = common::ran(
+            Command::new("sh")
+                .args(["-c", &line, tool, &path])
+                .output()
+                .unwrap(),
+        );
+        assert_eq!(ran.status, 2);
+        assert_eq!(
+            ran.err,
+            "pewgull: cannot write to standard output: it is closed\n"
+        );
+    }
+}
+
+#[test]
+fn control_characters_of_names_are_escaped() {
+    let odd = file("a\nb\u{1b}[1m.plant", with("load", "load 0"));
+    let ran = pewgull(&["choose", &odd, &odd]);
+    assert_eq!(ran.status, 1);
+    let escaped = "a\\nb\\u{1b}[1m.plant";
+    assert_eq!(ran.out.lines().count(), 4);
+    assert!(
+        ran.out.lines().next().unwrap().ends_with(escaped),
+        "{}",
+        ran.out
+    );
+    assert!(
+        ran.err.contains(&format!("{escaped}: refused 1")),
+        "{}",
+        ran.err
+    );
+    assert!(!ran.err.contains('\u{1b}'));
+    let absent = pewgull(&["choose", "no\nsuch"]);
+    assert_eq!(
+        absent.err,
+        "pewgull: no\\nsuch: no such file; expected a plant file\n"
     );
 }

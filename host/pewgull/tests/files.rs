@@ -113,7 +113,7 @@ fn unknown_keys() {
 
 #[test]
 fn bad_whole_numbers() {
-    let expected = "expected 'flow N', N a whole number from 0 to 4294967295 in m3/d";
+    let expected = "expected 'flow N', N a whole number from 1 to 200000 in m3/d";
     for (place, value) in ["x", "-5", "+5", "5000.0", "5,000", "5e3", "0x10"]
         .iter()
         .enumerate()
@@ -207,11 +207,54 @@ fn binary_files() {
         wrong,
         "expected a plant file",
     );
-    refused("latin.plant", b"# Kl\xe4ranlage\n", 1, wrong, "in UTF-8");
+    let latin = "byte e4 is not UTF-8";
+    refused(
+        "latin.plant",
+        b"load 1\n# Kl\xe4ranlage\n",
+        2,
+        latin,
+        "one in Latin-1",
+    );
     let wide: Vec<u8> = CASE_A.encode_utf16().flat_map(u16::to_le_bytes).collect();
     refused("wide.plant", wide, 1, wrong, "in UTF-8");
     let all: Vec<u8> = (0..=255).rev().collect();
     refused("binary.plant", all, 1, wrong, "in UTF-8");
+}
+
+#[test]
+fn line_ends_of_cr_alone() {
+    let wrong = "a line ends in CR alone";
+    let expected = "expected line ends of LF or CR LF";
+    refused("cr.plant", CASE_A.replace('\n', "\r"), 1, wrong, expected);
+    let one = CASE_A.replace("\ncod", "\rcod");
+    refused("one-cr.plant", one, 19, wrong, expected);
+    accepted("cr-at-end.plant", CASE_A.trim_end().to_string() + "\r");
+}
+
+/// Many faults, and many words, of a file of a megabyte take some megabytes.
+#[test]
+fn memory_for_a_long_file() {
+    for (name, part) in [
+        ("faults.plant", "x\n"),
+        ("words.plant", "x "),
+        ("keys.plant", "load\n"),
+    ] {
+        let path = file(name, part.repeat((1 << 20) / part.len()));
+        let ran = common::ran(
+            std::process::Command::new("sh")
+                .args(["-c", "ulimit -v 16000; exec \"$0\" choose \"$1\""])
+                .args([env!("CARGO_BIN_EXE_pewgull"), &path])
+                .output()
+                .unwrap(),
+        );
+        assert_eq!(
+            (ran.status, ran.out.as_str()),
+            (2, ""),
+            "{name}: {}",
+            ran.err
+        );
+        assert!(ran.err.contains(".plant:1: "), "{name}: {}", ran.err);
+    }
 }
 
 #[test]

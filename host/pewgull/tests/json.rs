@@ -1,4 +1,5 @@
-//! `--json`: well-formed objects with the listing's labels as keys.
+//! `--json`: a well-formed object for each file, with the listing's labels as
+//! keys.
 
 mod common;
 
@@ -30,6 +31,7 @@ fn text(rest: &str) -> Option<(String, &str)> {
             '"' => return Some((value, &rest[place + 1..])),
             '\\' => match chars.next()?.1 {
                 c @ ('"' | '\\') => value.push(c),
+                'n' => value.push('\n'),
                 _ => return None,
             },
             c if c < ' ' => return None,
@@ -57,57 +59,68 @@ fn listing(line: &str) -> String {
 
 #[test]
 fn a_sheet() {
-    let ran = pewgull(&[
-        "examine",
-        "--json",
-        &example("case-a.plant"),
-        "300",
-        "75",
-        "20",
-    ]);
+    let path = example("case-a.plant");
+    let ran = pewgull(&["examine", "--json", &path, "300", "75", "20"]);
     assert_eq!((ran.status, ran.out.lines().count()), (0, 1));
-    assert_eq!(listing(ran.out.trim_end()), CASE_A_LISTING);
-}
-
-#[test]
-fn a_refusal() {
-    let ran = pewgull(&[
-        "examine",
-        &example("case-a.plant"),
-        "299",
-        "75",
-        "20",
-        "--json",
-    ]);
-    assert_eq!((ran.status, ran.out.as_str()), (1, "{\"refused\": 7}\n"));
-    assert!(ran.err.contains("25800 mg/m3"), "{}", ran.err);
-}
-
-#[test]
-fn figures_and_limits() {
-    let ran = pewgull(&[
-        "--json",
-        "explain",
-        &example("case-a.plant"),
-        "300",
-        "75",
-        "20",
-    ]);
-    let expected = "nitrate-to-remove 26000\nnitrate-to-remove-at-most 26000\n\
-        nitrate-removable 26000\nnitrate-removable-at-least 26000\n\
-        solids 3777\nsolids-at-least 1000\nsludge-volume 378\nsludge-volume-at-most 600\n\
-        surface 454\nsurface-at-most 1000\ndepth 4537\ndepth-at-most 5000\n";
+    let expected = format!("file {path}\nstatus sheet\n{CASE_A_LISTING}");
     assert_eq!(listing(ran.out.trim_end()), expected);
 }
 
 #[test]
-fn several_files_name_their_file() {
+fn a_refusal() {
+    let path = example("case-a.plant");
+    for command in ["examine", "explain"] {
+        let ran = pewgull(&[command, &path, "501", "75", "20", "--json"]);
+        assert_eq!((ran.status, ran.out.lines().count()), (1, 1));
+        let start = format!("file {path}\nstatus refused\nnumber 6\nword off grid\nmessage ");
+        let members = listing(ran.out.trim_end());
+        assert!(members.starts_with(&start), "{members}");
+        let message = &members[start.len()..members.len() - 1];
+        assert_eq!(ran.err, format!("pewgull: {message}\n"));
+    }
+}
+
+#[test]
+fn figures_and_limits() {
+    let path = example("case-a.plant");
+    let ran = pewgull(&["--json", "explain", &path, "299", "75", "20"]);
+    let expected = format!(
+        "file {path}\nstatus figures\n\
+        nitrate-to-remove 26000\nnitrate-to-remove-at-most 25800\n\
+        nitrate-removable 25800\nnitrate-removable-at-least 26000\n\
+        solids 3777\nsolids-at-least 1000\nsludge-volume 378\nsludge-volume-at-most 600\n\
+        surface 454\nsurface-at-most 1000\ndepth 4537\ndepth-at-most 5000\n\
+        verdict 7\nword nitrate\n"
+    );
+    assert_eq!((ran.status, listing(ran.out.trim_end())), (0, expected));
+    let kept = pewgull(&["--json", "explain", &path, "300", "75", "20"]);
+    assert!(listing(kept.out.trim_end()).ends_with("\nverdict 0\nword sheet\n"));
+}
+
+/// One object for each file, whatever comes of it.
+#[test]
+fn each_file_has_its_object() {
     let odd = file("odd \"name\" \\ \u{e4}.plant", CASE_A);
     let none = example("weak-sewage-no-design.plant");
-    let ran = pewgull(&["choose", "--json", &odd, &none]);
-    assert_eq!(ran.status, 1);
+    let bad = file("json-bad.plant", "load x\n");
+    let absent = "no-such.plant".to_string();
+    let files = [&odd, &none, &bad, &absent];
+    let words: Vec<&str> = ["choose", "--json"]
+        .into_iter()
+        .chain(files.iter().map(|file| file.as_str()))
+        .collect();
+    let ran = pewgull(&words);
+    assert_eq!(ran.status, 2);
     let lines: Vec<_> = ran.out.lines().map(listing).collect();
-    assert_eq!(lines.len(), 2);
-    assert!(lines[0].starts_with(&format!("file {odd}\nfraction 300\nreturn 73\n")));
-    assert_eq!(lines[1], format!("file {none}\nrefused 5\n"));
+    let starts = [
+        "status sheet\nfraction 300\nreturn 73\n",
+        "status refused\nnumber 5\nword no design\nmessage ",
+        "status error\nmessage ",
+        "status error\nmessage no-such.plant: no such file",
+    ];
+    assert_eq!(lines.len(), starts.len());
+    for ((line, start), file) in lines.iter().zip(starts).zip(files) {
+        assert!(line.starts_with(&format!("file {file}\n{start}")), "{line}");
+    }
+    assert!(lines[2].contains(":1: 'x' is not a whole number"));
 }

@@ -1,0 +1,64 @@
+//! The library's answers to the commands, as text and as members of JSON.
+
+use crate::explanation;
+use crate::json::{self, Member, Value};
+use library::number::{self, SHEET};
+use library::{Candidate, Request, PAGE_LENGTH};
+
+/// The library's number, what an answer that is no refusal is called, and
+/// its text and its members.
+pub struct Answer {
+    pub number: u32,
+    pub kind: &'static str,
+    pub text: Vec<u8>,
+    pub members: Vec<Member>,
+}
+
+/// The answer of `choose`.
+pub fn choose(request: &Request) -> Answer {
+    let mut page = [0; PAGE_LENGTH];
+    let (number, written) = library::choose(&request.to_choose(), &mut page);
+    listed(number, &page[..written as usize])
+}
+
+/// The answer of `examine`.
+pub fn examine(request: &Request, candidate: Candidate) -> Answer {
+    let mut page = [0; PAGE_LENGTH];
+    let (number, written) = library::examine(&request.to_examine(candidate), &mut page);
+    listed(number, &page[..written as usize])
+}
+
+/// A listing, as the library wrote it.
+fn listed(number: u32, listing: &[u8]) -> Answer {
+    Answer {
+        number,
+        kind: "sheet",
+        text: listing.to_vec(),
+        members: json::members(&String::from_utf8_lossy(listing)),
+    }
+}
+
+/// The answer of `explain`: figures beside limits, and the verdict, which is
+/// the number that examining the candidate gives.
+pub fn explain(request: &Request, candidate: Candidate) -> Answer {
+    let figures = match explanation::figures(request, candidate) {
+        Err(number) => return listed(number, format!("refused {number}\n").as_bytes()),
+        Ok(figures) => figures,
+    };
+    let verdict = examine(request, candidate).number;
+    let lines = explanation::lines(request, &figures);
+    let mut text: String = lines.iter().map(|line| line.text()).collect();
+    text += &format!("verdict {verdict}\n");
+    let mut members: Vec<Member> = lines.iter().flat_map(|line| line.members()).collect();
+    members.push(("verdict".to_string(), Value::Number(verdict.into())));
+    members.push(json::text(
+        "word",
+        number::word(verdict).unwrap_or_default(),
+    ));
+    Answer {
+        number: SHEET,
+        kind: "figures",
+        text: text.into_bytes(),
+        members,
+    }
+}

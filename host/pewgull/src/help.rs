@@ -1,0 +1,115 @@
+//! The short help, the whole manual and the versions, from the tables.
+
+use crate::arguments::COMMANDS;
+use crate::keys::{Field, HEADS, KEYS};
+use library::number;
+use library::sheet::{GRID, LINES};
+use library::{KIT, VERSION};
+
+fn usage() -> String {
+    let mut text = String::new();
+    for (place, form) in COMMANDS.iter().enumerate() {
+        let start = if place == 0 { "Usage:" } else { "      " };
+        text += &format!(
+            "{start} pewgull {:<7} [--json] {}\n",
+            form.name,
+            form.words()
+        );
+    }
+    text + "       pewgull help | --help | --version\n"
+}
+
+fn commands() -> String {
+    COMMANDS
+        .iter()
+        .map(|form| format!("{:<8} {}\n", form.name, form.about))
+        .collect()
+}
+
+fn grid() -> String {
+    GRID.iter()
+        .map(|side| {
+            let range = side.range();
+            format!(
+                "{:<8} {}, {range}, in {}\n",
+                side.letter, side.meaning, side.unit
+            )
+        })
+        .collect()
+}
+
+const STATUS: &str = "\
+Exit status: 0 a sheet (explain: figures), 1 a refusal, 2 a file or usage error
+";
+
+/// What `--help` prints: a screen.
+pub fn short() -> String {
+    format!(
+        "{}\n{}help     prints all lines, keys, units, ranges and refusals\n\
+         --json   prints one JSON object for each file, on a line of its own\n\
+         FILE     a plant file: text, one 'key value' per line, # starts a comment;\n         \
+         - is standard input; examples/case-a.plant has every key\n{}\n{STATUS}\
+         Example: pewgull examine examples/case-a.plant 300 75 20\n",
+        usage(),
+        commands(),
+        grid()
+    )
+}
+
+/// What `help` prints: the same, and every table.
+pub fn manual() -> String {
+    let mut text = short();
+    text += "\nThe lines of a sheet\n";
+    for line in LINES {
+        text += &format!("  {:<14} {:<33} {}\n", line.label, line.meaning, line.unit);
+    }
+    text += "\nThe keys of a plant file\n";
+    for key in &KEYS {
+        let (name, meaning) = (key.name, key.meaning);
+        text += &match &key.field {
+            Field::Whole(range, _) | Field::Reading(range, _) => {
+                let (ends, unit) = (range.digits(), range.unit);
+                format!("  {name:<21} {meaning:<25} {ends:<12} {unit}\n")
+            }
+            Field::Word(words, _) => format!("  {name:<21} {}\n", wrapped(words, 24)),
+        };
+    }
+    text += &format!(
+        "A reading is 'measured X', 'below X' (half of X counts) or 'heads N', N in\n\
+         {}; X in mg/l, or bits: and the eight hex digits of an f32. Its range is\n\
+         that of the concentration that comes out.\n",
+        HEADS.digits()
+    );
+    text += "\nThe refusals\n";
+    for refusal in number::ALL {
+        if number::is_refusal(refusal.number) {
+            text += &format!("  {:>3} {}\n", refusal.number, refusal.word);
+        }
+    }
+    text
+}
+
+/// The words in lines of 80 columns, the later lines indented.
+fn wrapped(words: &[&str], indent: usize) -> String {
+    let mut text = String::new();
+    let mut column = indent;
+    for (place, word) in words.iter().enumerate() {
+        let word = match place + 1 < words.len() {
+            true => format!("{word}, "),
+            false => word.to_string(),
+        };
+        if column + word.len() > 80 {
+            text = format!("{}\n{:indent$}", text.trim_end(), "");
+            column = indent;
+        }
+        column += word.len();
+        text += &word;
+    }
+    text
+}
+
+/// The tool's version, the request's, and the kit's identity.
+pub fn version() -> String {
+    let tool = env!("CARGO_PKG_VERSION");
+    format!("pewgull {tool}\nrequest {VERSION}\nkit {KIT}\n")
+}
