@@ -5,8 +5,10 @@
  * Each call takes the bytes of a request, writes on a page that the caller
  * lends, stores the number of bytes written in *written, and gives a number.
  * Later bytes of the page stay unchanged. No call allocates memory, keeps
- * anything between calls, or reads or writes anything else. The archive needs
- * memcpy and memset, and nothing more.
+ * anything between calls, or reads or writes anything else: several threads
+ * may call at once, each with memory of its own. A choice takes 15 kB of
+ * stack, the other calls 2 kB. The archive needs memcpy and memset, and
+ * nothing more.
  *
  * What the caller sees to
  *   - request points to request_length readable bytes; page points to
@@ -15,42 +17,65 @@
  *   - The page and *written overlap neither the request nor each other.
  *   - No alignment is needed for the request or the page.
  *
- * The request, version 1: 32-bit unsigned numbers, little-endian, no padding
+ * The request, version 1: 32-bit unsigned numbers, little-endian, no padding.
+ * Data outside their ranges are refused with a number; every other number is
+ * answered for.
  *
  *   word   bytes      what
  *   0      0..3       version: 1
- *   1      4..7       load: raw BOD5 load, kg/d
- *   2      8..11      flow: daily flow, m3/d
- *   3      12..15     wet weather flow, m3/h
- *   4      16..19     design temperature, degrees Celsius
- *   5      20..23     aeration temperature, degrees Celsius
- *   6      24..27     sludge volume index, l/kg
- *   7      28..31     nitrate target, mg/m3
- *   8      32..35     phosphorus target, mg/m3
- *   9      36..39     carbon peak factor, hundredths
- *   10     40..43     nitrogen peak factor, hundredths
- *   11     44..47     oxygen saturation, mg/m3
- *   12     48..51     site: largest settling surface, m2
- *   13     52..55     site: largest settling depth, mm
+ *   1      4..7       raw BOD5 load, 1..100000 kg/d
+ *   2      8..11      daily flow, 1..200000 m3/d
+ *   3      12..15     wet weather flow, 1..50000 m3/h
+ *   4      16..19     design temperature, 10..20 degrees Celsius
+ *   5      20..23     aeration temperature, 10..20 degrees Celsius
+ *   6      24..27     sludge volume index, 50..200 l/kg
+ *   7      28..31     nitrate target, 1000..50000 mg/m3
+ *   8      32..35     phosphorus target, 0..100000 mg/m3
+ *   9      36..39     carbon peak factor, 100..300 hundredths
+ *   10     40..43     nitrogen peak factor, 100..300 hundredths
+ *   11     44..47     oxygen saturation, 6000..15000 mg/m3
+ *   12     48..51     site: largest settling surface, 1..100000 m2
+ *   13     52..55     site: largest settling depth, 3000..10000 mm
  *   14     56..59     process: 0 pre-anoxic, 1 simultaneous, 2 intermittent,
  *                     3 step-feed in two steps, 4 step-feed in three steps
  *   15     60..63     precipitant: 0 iron, 1 aluminium
  *   16     64..67     tank flow: 0 horizontal, 1 vertical
  *   17     68..71     sludge removal: 0 scraper, 1 suction, 2 hopper
  *   18     72..75     primary settling: 0 none, 1 short, 2 long
- *   19,20  76..83     BOD reading: kind, then value
- *   21,22  84..91     COD reading
- *   23,24  92..99     solids reading
- *   25,26  100..107   nitrogen reading
- *   27,28  108..115   phosphorus reading
+ *   19,20  76..83     reading of BOD, 20..2000 mg/l: kind, then value
+ *   21,22  84..91     reading of COD, 20..4400 mg/l
+ *   23,24  92..99     reading of solids, 0..2000 mg/l
+ *   25,26  100..107   reading of nitrogen, 0..500 mg/l
+ *   27,28  108..115   reading of phosphorus, 0..100 mg/l
  *                     A request to choose ends here.
- *   29     116..119   fraction, thousandths
- *   30     120..123   return ratio, hundredths
- *   31     124..127   thickening time, tenths of an hour
+ *   29     116..119   fraction, 200..500 thousandths
+ *   30     120..123   return ratio, 30..75 (vertical flow 30..100) hundredths
+ *   31     124..127   thickening time, 20..25 tenths of an hour
  *                     A request to examine or to explain ends here.
  *
  *   Kind of a reading and its value: 0 measured, the bits of a binary32 in
- *   mg/l; 1 below a limit, the bits of the limit in mg/l; 2 head count.
+ *   mg/l; 1 below a limit, the bits of the limit in mg/l, of which half
+ *   counts; 2 head count, 1..2000000. The range is that of the concentration
+ *   that comes out.
+ *
+ * A sheet's listing: fifteen lines, each a label, a space, a decimal number
+ * and a newline
+ *
+ *   fraction       denitrification fraction, thousandths
+ *   return         return ratio, hundredths
+ *   thickening     thickening time, tenths of an hour
+ *   age            sludge age, thousandths of a day
+ *   sludge         sludge production, g/d
+ *   mass           sludge mass in the reactor, kg
+ *   solids         solids at the reactor's outflow, g/m3
+ *   reactor        reactor volume, m3
+ *   surface        settling surface, m2
+ *   depth          settling depth, mm
+ *   settling       settling volume, m3
+ *   total          reactor and settling volume, m3
+ *   recirculation  recirculation ratio, thousandths
+ *   oxygen         hourly oxygen uptake, g/h
+ *   transfer       oxygen transfer of the aeration, g/h
  */
 #ifndef PEWGULL_H
 #define PEWGULL_H
@@ -95,8 +120,7 @@ extern "C" {
 
 /*
  * Examines the candidate of a request of PEWGULL_EXAMINE_LENGTH bytes.
- * Gives 0 and writes the sheet's listing: fifteen lines, each a label, a
- * space, a decimal number and a newline. Gives 1 to 4 or 6 to 10 and writes
+ * Gives 0 and writes the sheet's listing. Gives 1 to 4 or 6 to 10 and writes
  * "refused ", the number and a newline. Gives 11 or 101 to 103, writes
  * nothing on the page and stores 0 in *written. The listing has no
  * terminating zero byte: its length is *written.

@@ -6,6 +6,7 @@ use cases::tanks::OnLines;
 use comparison::compare::{agree, compare, expected, Operation};
 use comparison::counts::{in_parts, settle, Found};
 use comparison::requests;
+use comparison::stack::stack_of;
 use library::number::*;
 
 const EXAMINATIONS: usize = 50_000;
@@ -129,4 +130,25 @@ fn differences_are_reported() {
     }
     let refused = expected(Operation::Examine, &bytes, 0);
     assert!(agree(Operation::Examine, &bytes, 512, &refused).is_err());
+}
+
+/// The stack of each call, as the header and the README state it.
+#[test]
+fn stack_as_stated() {
+    let plant = cases::plants::case_a();
+    let vertical = plant.with(cases::request::TANK_FLOW, 1);
+    for request in [plant, vertical] {
+        let (examine, choose) = (request.examine_bytes(), request.choose_bytes());
+        for (call, bytes, stated) in [
+            (library::CHOOSE, &choose, 15_000),
+            (library::EXAMINE, &examine, 2_000),
+            (library::EXPLAIN, &examine, 2_000),
+        ] {
+            let (_, taken) = stack_of(call, bytes, &mut [0; 512]);
+            assert!(
+                taken <= stated,
+                "{taken} bytes, include/pewgull.h states {stated}"
+            );
+        }
+    }
 }

@@ -1,0 +1,153 @@
+//! README.md, the header and the examples say what the tool's tables have.
+
+mod common;
+
+use common::{pewgull, repository};
+use library::number;
+use library::sheet::{GRID, LINES};
+use pewgull::keys::{Field, HEADS, KEYS};
+use std::fs;
+
+fn document(name: &str) -> String {
+    fs::read_to_string(repository().join(name)).unwrap()
+}
+
+/// The text in single spaces, without the stars of a comment.
+fn plain(text: &str) -> String {
+    let words = text.split_whitespace().filter(|word| *word != "*");
+    words.collect::<Vec<_>>().join(" ")
+}
+
+fn has(document: &str, name: &str, part: &str) {
+    assert!(document.contains(part), "{name} has no '{part}'");
+}
+
+#[test]
+fn lines() {
+    let (readme, header) = (document("README.md"), plain(&document("include/pewgull.h")));
+    let help = plain(&pewgull(&["help"]).out);
+    for line in LINES {
+        let (label, meaning, unit) = (line.label, line.meaning, line.unit);
+        has(
+            &readme,
+            "README.md",
+            &format!("\n| `{label}` | {meaning} | {unit} |\n"),
+        );
+        has(
+            &header,
+            "the header",
+            &format!(" {label} {meaning}, {unit} "),
+        );
+        has(&help, "help", &format!(" {label} {meaning} {unit} "));
+    }
+}
+
+#[test]
+fn keys() {
+    let (readme, header) = (document("README.md"), plain(&document("include/pewgull.h")));
+    let help = plain(&pewgull(&["help"]).out);
+    for key in &KEYS {
+        let (name, meaning) = (key.name, key.meaning);
+        let range = match &key.field {
+            Field::Whole(range, _) | Field::Reading(range, _) => {
+                let range = format!("{} {}", range.digits(), range.unit);
+                has(&header, "the header", &format!(" {meaning}, {range}"));
+                has(&help, "help", &format!(" {name} {meaning} {range} "));
+                range
+            }
+            Field::Word(words, _) => {
+                has(
+                    &header,
+                    "the header",
+                    &format!(" {meaning}: 0 {}", words[0]),
+                );
+                has(&help, "help", &format!(" {name} {} ", words.join(", ")));
+                words.join(", ")
+            }
+        };
+        has(
+            &readme,
+            "README.md",
+            &format!("\n| `{name}` | {meaning} | {range} |\n"),
+        );
+    }
+    for document in [&plain(&readme), &header, &help] {
+        has(document, "a document", &HEADS.digits());
+    }
+}
+
+#[test]
+fn grid() {
+    let (readme, header) = (
+        plain(&document("README.md")),
+        plain(&document("include/pewgull.h")),
+    );
+    let help = plain(&pewgull(&["--help"]).out);
+    for side in &GRID {
+        let (letter, meaning, range, unit) = (side.letter, side.meaning, side.range(), side.unit);
+        has(
+            &readme,
+            "README.md",
+            &format!("the {meaning}, {range} {unit}"),
+        );
+        has(&readme, "README.md", &format!("{letter} "));
+        has(
+            &header,
+            "the header",
+            &format!(" {meaning}, {range} {unit} "),
+        );
+        has(
+            &help,
+            "help",
+            &format!(" {letter} {meaning}, {range}, in {unit} "),
+        );
+    }
+}
+
+#[test]
+fn numbers() {
+    let (readme, header) = (document("README.md"), plain(&document("include/pewgull.h")));
+    let help = plain(&pewgull(&["help"]).out);
+    for known in number::ALL {
+        let (number, word, name) = (known.number, known.word, known.name);
+        has(
+            &header,
+            "the header",
+            &format!("#define PEWGULL_{name} {number} "),
+        );
+        if number::is_refusal(number) || number == number::SHORT_PAGE {
+            has(&readme, "README.md", &format!("\n| {number} | {word} | "));
+        }
+        if number::is_refusal(number) {
+            has(&(help.clone() + " "), "help", &format!(" {number} {word} "));
+        }
+    }
+}
+
+#[test]
+fn lengths() {
+    let header = plain(&document("include/pewgull.h"));
+    for (name, value) in [
+        ("VERSION", library::VERSION as usize),
+        ("CHOOSE_LENGTH", library::CHOOSE_LENGTH),
+        ("EXAMINE_LENGTH", library::EXAMINE_LENGTH),
+        ("EXPLAIN_LENGTH", library::EXPLAIN_LENGTH),
+        ("PAGE_LENGTH", library::PAGE_LENGTH),
+        ("FIGURES_LENGTH", library::FIGURES_LENGTH),
+    ] {
+        has(
+            &header,
+            "the header",
+            &format!("#define PEWGULL_{name} {value} "),
+        );
+    }
+}
+
+#[test]
+fn the_manual_fits_a_line() {
+    let help = pewgull(&["help"]).out;
+    assert!(
+        help.lines().all(|line| line.chars().count() <= 80),
+        "{help}"
+    );
+}
