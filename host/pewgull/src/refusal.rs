@@ -68,88 +68,103 @@ fn off_grid(tank: TankFlow, candidate: Option<Candidate>) -> String {
     text
 }
 
-/// Whether to move a number of the candidate up or down.
-#[derive(Clone, Copy, PartialEq, Eq)]
+/// Ways to move numbers of the candidate, by their letters.
 enum Move {
-    Larger,
-    Smaller,
+    None,
+    Larger(&'static [&'static str]),
+    Smaller(&'static [&'static str]),
 }
 
-/// Such of the moves as the grid has room for, in words: `a larger F`.
-fn moves(way: Move, letters: &[&str], tank: TankFlow, candidate: Candidate) -> Option<String> {
+/// Such of the moves as the grid has room for, in words: `, a larger F`.
+fn moves(way: Move, tank: TankFlow, candidate: Candidate) -> String {
+    let (word, letters, larger) = match way {
+        Move::None => return String::new(),
+        Move::Larger(letters) => ("larger", letters, true),
+        Move::Smaller(letters) => ("smaller", letters, false),
+    };
     let open: Vec<&str> = GRID
         .iter()
         .filter(|side| letters.contains(&side.letter))
-        .filter(|side| match way {
-            Move::Larger => side.of(&candidate) < side.most(tank),
-            Move::Smaller => side.of(&candidate) > side.least,
+        .filter(|side| match larger {
+            true => side.of(&candidate) < side.most(tank),
+            false => side.of(&candidate) > side.least,
         })
         .map(|side| side.letter)
         .collect();
-    let word = match way {
-        Move::Larger => "larger",
-        Move::Smaller => "smaller",
-    };
-    (!open.is_empty()).then(|| format!("a {word} {}", open.join(" or ")))
-}
-
-/// `Look at` the keys and the moves that the grid has room for.
-fn look_at(keys: &str, moves: Option<String>) -> String {
-    match moves {
-        Some(moves) => format!("\n  Look at {keys}, {moves}"),
-        None => format!("\n  Look at {keys}"),
+    match open.is_empty() {
+        true => String::new(),
+        false => format!(", a {word} {}", open.join(" or ")),
     }
 }
 
-/// Refusals 7 to 10, with the figure and its limit.
+/// Refusals 7 to 10: the figure and its limit, keys to look at, and moves.
 fn broken_limit(number: u32, request: &Request, candidate: Candidate, figures: &Figures) -> String {
-    let moves = |way, letters| moves(way, letters, request.tank, candidate);
-    match number {
-        NITRATE => {
-            format!(
-                "the tank cannot remove enough nitrate.\n  \
-                 to be removed           {:>8} mg/m3\n  \
-                 the tank can remove     {:>8} mg/m3",
-                figures.nitrate_to_remove, figures.nitrate_removable
-            ) + &look_at(
-                "nitrate-target, nitrogen and bod, design-temperature",
-                moves(Move::Larger, &["F"]),
-            )
-        }
-        SOLIDS if figures.solids < LEAST_SOLIDS => {
-            format!(
-                "too few solids in the reactor.\n  \
-                 solids {} g/m3, at least {LEAST_SOLIDS} g/m3.",
-                figures.solids
-            ) + &look_at(
-                "sludge-volume-index, removal",
-                moves(Move::Larger, &["R", "H"]),
-            )
-        }
-        SOLIDS => {
-            format!(
-                "the diluted sludge volume is too large.\n  \
-                 diluted sludge volume {} l/m3, at most {MOST_SLUDGE_VOLUME} l/m3.",
-                figures.sludge_volume
-            ) + &look_at("removal", moves(Move::Smaller, &["R", "H"]))
-        }
-        SURFACE => {
-            format!(
-                "the settling tank needs more surface than the site has.\n  \
-                 needed surface {} m2, site-surface {} m2.",
-                figures.surface, request.site_surface
-            ) + &look_at(
-                "site-surface, wet-weather-flow, tank, removal",
-                moves(Move::Smaller, &["R", "H"]),
-            )
-        }
-        DEPTH => {
-            format!(
-                "the settling tank needs more depth than the site has.\n  \
-                 needed depth {} mm, site-depth {} mm.",
-                figures.depth, request.site_depth
-            ) + &look_at("site-depth, R and H, tank, removal", None)
-        }
-        _ => String::new(),
-    }
+    let both = &["R", "H"];
+    let (text, keys, way) = match number {
+        NITRATE => (
+            nitrate(figures),
+            "nitrate-target, nitrogen and bod, design-temperature",
+            Move::Larger(&["F"]),
+        ),
+        SOLIDS if figures.solids < LEAST_SOLIDS => (
+            few_solids(figures),
+            "sludge-volume-index, removal",
+            Move::Larger(both),
+        ),
+        SOLIDS => (much_volume(figures), "removal", Move::Smaller(both)),
+        SURFACE => (
+            surface(request, figures),
+            "site-surface, wet-weather-flow, tank, removal",
+            Move::Smaller(both),
+        ),
+        DEPTH => (
+            depth(request, figures),
+            "site-depth, R and H, tank, removal",
+            Move::None,
+        ),
+        _ => return String::new(),
+    };
+    let moves = moves(way, request.tank, candidate);
+    format!("{text}\n  Look at {keys}{moves}")
+}
+
+fn nitrate(figures: &Figures) -> String {
+    format!(
+        "the tank cannot remove enough nitrate.\n  \
+         to be removed           {:>8} mg/m3\n  \
+         the tank can remove     {:>8} mg/m3",
+        figures.nitrate_to_remove, figures.nitrate_removable
+    )
+}
+
+fn few_solids(figures: &Figures) -> String {
+    format!(
+        "too few solids in the reactor.\n  \
+         solids {} g/m3, at least {LEAST_SOLIDS} g/m3.",
+        figures.solids
+    )
+}
+
+fn much_volume(figures: &Figures) -> String {
+    format!(
+        "the diluted sludge volume is too large.\n  \
+         diluted sludge volume {} l/m3, at most {MOST_SLUDGE_VOLUME} l/m3.",
+        figures.sludge_volume
+    )
+}
+
+fn surface(request: &Request, figures: &Figures) -> String {
+    format!(
+        "the settling tank needs more surface than the site has.\n  \
+         needed surface {} m2, site-surface {} m2.",
+        figures.surface, request.site_surface
+    )
+}
+
+fn depth(request: &Request, figures: &Figures) -> String {
+    format!(
+        "the settling tank needs more depth than the site has.\n  \
+         needed depth {} mm, site-depth {} mm.",
+        figures.depth, request.site_depth
+    )
 }
