@@ -15,7 +15,8 @@ exactAge factor temperature fraction =
 pub dividedAge : ℕ → ℕ → ℕ
 dividedAge aerobic fraction = nearest (1000 * aerobic) (1000 - fraction)
 
--- (5-12) to the nearest hundredth, the mean of 10 and 12 degrees, with e and U unrounded
+-- (5-12) to the nearest hundredth, the mean of 10 and 12 degrees, with e and U unrounded; exact but for F (`decay`), which
+-- document 01 rounds at each degree
 pub exactProduction : ℕ → ℕ → ℕ
 exactProduction ratio days =
     let u = days * decay 10 in
