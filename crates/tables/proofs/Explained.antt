@@ -44,7 +44,7 @@ pub record Explained : Type 0 where
   pub production-12 : exactProduction 12 15 ≡ 107
 
 pub explained : Explained
-unfolding safetyFactor perDegree growth decay aerobicAge sludgeAge nearest ageTenths exactAge dividedAge exactProduction
+unfolding safetyFactor perDegree growth decay aerobicAge sludgeAge exactAge dividedAge exactProduction
 explained =
     record {
       age-10-200 = record { exact = refl; divided = refl };

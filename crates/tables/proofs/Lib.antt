@@ -1,3 +1,2 @@
--- Laws that the proofs of this crate cite, and why ten values differ.
-pub mod Counting
+-- Why ten values differ.
 pub mod Explained
