@@ -8,40 +8,41 @@ use native.Mathlib.Omega.{arith}
 use lib.ListN.{length, take, drop}
 use lib.Seq.{length-take-le, length-front, take-at, drop-at}
 use Rattle.rules.specs.Answers.{writtenCount}
-use Rattle.rules.specs.Listing.{listing}
-use Rattle.rules.specs.declared.Answer.{Answer}
-use Rattle.request.specs.Layout.{decodeData, decodeExamination}
-use Rattle.request.specs.declared.DecodedData.{DecodedData}
-use Rattle.request.specs.declared.DecodedExamination.{DecodedExamination}
+use Rattle.request.specs.Layout.{candidateWords, decode, askedCandidate}
+use Rattle.request.specs.declared.Data.{Data}
+use Rattle.request.specs.declared.Decoded.{Decoded}
 use Rattle.listing.proofs.Outcomes.{writing-fits, writing-long}
-use Rattle.interface.specs.Calls.{Outcome, outcome, answered, malformed, onExamination, examinedBy, examined, ChoosingData}
+use Rattle.interface.specs.Calls.{Outcome, outcome, putOn, malformed, onData, examinedAt, examined, ChoosingData}
 use Rattle.compare.specs.Records.{Call, Answers}
 use Rattle.compare.specs.declared.Operation.{Operation}
 
--- a listing's bytes are on the page, or there are none
-answered-within : (answer : Answer) (page : List ℕ) → answered answer page .written ≤ length page
-unfolding answered writtenCount
-answered-within answer page =
-    elim (decLe (length (listing answer)) (length page)) [
-      | yes room ↦ rw (writing-fits (listing answer) page room) room
-      | no short ↦ rw (writing-long (listing answer) page (omega arith)) (omega arith)
+-- bytes are on the page, or none of them
+put-within : (own : ℕ) (bytes page : List ℕ) → putOn own bytes page .written ≤ length page
+unfolding putOn writtenCount
+put-within own bytes page =
+    elim (decLe (length bytes) (length page)) [
+      | yes room ↦ rw (writing-fits bytes page room) room
+      | no short ↦ rw (writing-long bytes page (omega arith)) (omega arith)
     ]
 
-examination-within : (d : DecodedExamination) (page : List ℕ) → onExamination examinedBy d page .written ≤ length page
-unfolding onExamination malformed
-examination-within (DecodedExamination.Malformed fault) page = omega arith
-examination-within (DecodedExamination.Examination x) page = answered-within _ page
+data-within :
+    (answer : Data → Outcome) (page : List ℕ) (d : Decoded) → ((x : Data) → answer x .written ≤ length page)
+    → onData answer page d .written ≤ length page
+unfolding onData malformed
+data-within answer page (Decoded.Malformed fault) each = omega arith
+data-within answer page (Decoded.Data x) each = each x
 
-choosing-within : (d : DecodedData) (page : List ℕ) (o : Outcome) → ChoosingData d page o → o .written ≤ length page
+choosing-within : (page : List ℕ) (o : Outcome) (d : Decoded) → ChoosingData page o d → o .written ≤ length page
 unfolding malformed
-choosing-within (DecodedData.Malformed fault) page o e = rw e (omega arith)
-choosing-within (DecodedData.Data x) page o (a, c, e) = rw e (answered-within a page)
+choosing-within page o (Decoded.Malformed fault) e = rw e (omega arith)
+choosing-within page o (Decoded.Data x) (a, c, e) = rw e (put-within _ _ page)
 
 pub call-within :
     (operation : Operation) (request page : List ℕ) (o : Outcome) → Call operation request page o → o .written ≤ length page
 unfolding examined
-call-within Operation.Examine request page o e = rw e (examination-within (decodeExamination request) page)
-call-within Operation.Choose request page o e = choosing-within (decodeData request) page o e
+call-within Operation.Examine request page o e =
+    rw e (data-within (examinedAt (askedCandidate request) page) page (decode request candidateWords) (λ x. put-within _ _ page))
+call-within Operation.Choose request page o e = choosing-within page o (decode request 0) e
 
 -- the first n elements of a list are n
 pub counted : (n : ℕ) (l : List ℕ) → n ≤ length l → n ≡ length (take n l)

@@ -8,9 +8,10 @@ use lib.ListN.{replicate}
 use Rattle.rules.specs.Listing.{writing}
 use Rattle.rules.proofs.Computing.{steps}
 use Rattle.request.specs.Kinds.{processOf, precipitantOf, tankFlowOf, removalOf, primarySettlingOf, readingOf}
-use Rattle.request.specs.Layout.{word, plantOf, readingsOf, candidateOf, kindsKnown, checked, decodeExamination}
-use Rattle.request.proofs.CaseA.{requestA}
-use Rattle.interface.specs.Calls.{answered, numberOf, onExamination, examined}
+use Rattle.words.specs.Bytes.{word, wordsFrom}
+use Rattle.request.specs.Layout.{decodeWords, decode}
+use Rattle.request.proofs.CaseA.{dataA, requestA}
+use Rattle.interface.specs.Calls.{numberOf, putOn, onData, examined}
 use Rattle.compare.specs.Records.{operationOf, headerOf}
 use Rattle.compare.specs.declared.Operation.{Operation}
 use Rattle.compare.specs.declared.Header.{Header}
@@ -20,22 +21,30 @@ abbrev pub numberOn : ℕ → ℕ
 numberOn room = examined requestA (replicate room 0) .number
 
 pub page-lengths : (numberOn 193 ≡ 11) × (numberOn 194 ≡ 0)
-unfolding steps examined onExamination answered numberOf requestA decodeExamination checked word kindsKnown plantOf readingsOf candidateOf processOf precipitantOf tankFlowOf removalOf primarySettlingOf readingOf ofBits writing
+unfolding steps examined onData putOn numberOf dataA requestA decode decodeWords wordsFrom word processOf precipitantOf tankFlowOf removalOf primarySettlingOf readingOf ofBits writing
 page-lengths = (refl, refl)
 
--- a header of two words of two bytes
-abbrev pub header : ℕ → ℕ → ℕ → ℕ → List ℕ
-header a b c d = a ∷ b ∷ 0 ∷ 0 ∷ c ∷ d ∷ 0 ∷ 0 ∷ []
+-- a header of three words of two bytes
+abbrev pub header : ℕ → ℕ → ℕ → ℕ → ℕ → ℕ → List ℕ
+header a b c d e f = a ∷ b ∷ 0 ∷ 0 ∷ c ∷ d ∷ 0 ∷ 0 ∷ e ∷ f ∷ 0 ∷ 0 ∷ []
 
-pub page-of-512 : headerOf (header 0 0 0 2) ≡ Header.Record Operation.Examine 128 512
+pub page-of-512 : headerOf (header 0 0 0 2 1 2) ≡ Header.Record Operation.Examine 513 512
 unfolding headerOf operationOf word
 page-of-512 = refl
 
-pub page-of-513 : headerOf (header 0 0 1 2) ≡ Header.Bad
+pub page-of-513 : headerOf (header 0 0 1 2 0 0) ≡ Header.Bad
 unfolding headerOf operationOf word
 page-of-513 = refl
 
+pub request-of-4096 : headerOf (header 1 0 0 0 0 16) ≡ Header.Record Operation.Choose 4_096 0
+unfolding headerOf operationOf word
+request-of-4096 = refl
+
+pub request-of-4097 : headerOf (header 1 0 0 0 1 16) ≡ Header.Bad
+unfolding headerOf operationOf word
+request-of-4097 = refl
+
 -- its first byte alone would be read as a request to choose
-pub operation-257 : headerOf (header 1 1 0 2) ≡ Header.Bad
+pub operation-257 : headerOf (header 1 1 0 2 0 0) ≡ Header.Bad
 unfolding headerOf operationOf word
 operation-257 = refl

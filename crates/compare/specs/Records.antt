@@ -1,24 +1,28 @@
--- A record's header decoded, for every eight bytes, and what its request is answered with. Assumes nothing.
+-- A record's header decoded, for every twelve bytes, and what its request is answered with. Assumes nothing.
 use Prim.Native.Nat.{ℕ, _≤_}
 use mathlib.Core.Path.{_≡_}
 use mathlib.Core.Bool.{cond}
 use mathlib.Core.List.{List}
 use lib.Dec.{leb, eqb}
 use lib.ListN.{take, drop}
-use Rattle.request.specs.Layout.{word}
+use Rattle.words.specs.Bytes.{word}
+use Rattle.request.specs.Layout.{longestRequest}
 use Rattle.interface.specs.Calls.{Outcome, outcome, examined, Choosing}
 use Rattle.compare.specs.declared.Operation.{Operation}
 use Rattle.compare.specs.declared.Header.{Header}
 
--- the operation that a code stands for, with its request's length and a page's
-unfoldable pub operationOf : ℕ → ℕ → Header
-operationOf code room =
-    cond (eqb code 0) (Header.Record Operation.Examine 128 room)
-    (cond (eqb code 1) (Header.Record Operation.Choose 116 room) Header.Bad)
+-- the operation that a code stands for, with a request's length and a page's
+unfoldable pub operationOf : ℕ → ℕ → ℕ → Header
+operationOf code length room =
+    cond (eqb code 0) (Header.Record Operation.Examine length room)
+    (cond (eqb code 1) (Header.Record Operation.Choose length room) Header.Bad)
 
--- a header: the operation's word, then the page's length, at most 512
+-- a header: the operation's word, then the page's length, at most 512, and the request's
 unfoldable pub headerOf : List ℕ → Header
-headerOf bytes = cond (leb (word bytes 1) 512) (operationOf (word bytes 0) (word bytes 1)) Header.Bad
+headerOf bytes =
+    cond (leb (word bytes 1) 512)
+    (cond (leb (word bytes 2) longestRequest) (operationOf (word bytes 0) (word bytes 2) (word bytes 1)) Header.Bad)
+    Header.Bad
 
 -- what the call for an operation gives
 abbrev pub Call : Operation → List ℕ → List ℕ → Outcome → Type 0

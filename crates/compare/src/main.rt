@@ -1,10 +1,12 @@
 // Answers records from standard input by the calls for C, at most 10,000 of them, and prints what each call gives. A record is
-// a header of eight bytes, an operation (0 to examine, 1 to choose) and a page's length, and then the operation's request.
+// a header of three words, an operation (0 to examine, 1 to choose), a page's length and a request's, and then the request.
 use libc::STDIN_FILENO;
 use libc::STDOUT_FILENO;
+use request::LONGEST_REQUEST;
 ghost use mathlib.Core.Path.{_≡_};
 ghost use Prim.Native.Nat.{_≤_};
 ghost use lib.ListN.{length};
+ghost use Rattle.request.specs.Layout.{longestRequest};
 ghost use Rattle.interface.specs.Calls.{outcome};
 ghost use Rattle.compare.specs.Records.{headerOf, Call, Answers};
 
@@ -14,7 +16,7 @@ pub enum Operation {
     Choose,
 }
 
-// A record's header: the operation, its request's length and the page's, or one that no record has.
+// A record's header: the operation, the request's length and the page's, or one that no record has.
 pub enum Header {
     Record {
         operation: Operation,
@@ -30,23 +32,27 @@ pub struct Reply {
     pub written: usize,
 }
 
-// What a header asks for. A page is at most 512 bytes long.
-fn decode_header(bytes: &[u8; 8]) -> Header
+// What a header asks for. A page is at most 512 bytes long, and a request no longer than the longest.
+fn decode_header(bytes: &[u8; 12]) -> Header
     ensures { λ r. ⌜ r ≡ headerOf (now (bytes .entry)) ⌝ }
 {
-    let room = request::word(bytes, 1) as usize;
+    let room = words::word(bytes, 1) as usize;
     if 512 < room {
         return Header::Bad;
     }
-    match request::word(bytes, 0) {
+    let length = words::word(bytes, 2) as usize;
+    if LONGEST_REQUEST < length {
+        return Header::Bad;
+    }
+    match words::word(bytes, 0) {
         0 => Header::Record {
             operation: Operation::Examine,
-            length: 128,
+            length,
             room,
         },
         1 => Header::Record {
             operation: Operation::Choose,
-            length: 116,
+            length,
             room,
         },
         _ => Header::Bad,
@@ -78,9 +84,9 @@ fn answer(operation: Operation, request: &[u8], page: &mut [u8], room: usize) ->
 
 // Reads the request that a header announces, answers it and prints the answer. Says whether the request was whole.
 fn respond(operation: Operation, length: usize, room: usize) -> bool
-    requires { ⌜ (length ≤ 128) × (room ≤ 512) ⌝ }
+    requires { ⌜ (length ≤ longestRequest) × (room ≤ 512) ⌝ }
 {
-    let mut request = [0u8; 128];
+    let mut request = [0u8; LONGEST_REQUEST];
     if io::read_full(STDIN_FILENO, &mut request[..length]) != length {
         return false;
     }
@@ -96,7 +102,7 @@ fn respond(operation: Operation, length: usize, room: usize) -> bool
 }
 
 // Responds to a record by its header. Says whether it was a whole and good record.
-fn take_record(bytes: &[u8; 8]) -> bool {
+fn take_record(bytes: &[u8; 12]) -> bool {
     match decode_header(bytes) {
         Header::Record {
             operation,
@@ -109,12 +115,12 @@ fn take_record(bytes: &[u8; 8]) -> bool {
 
 // Takes the next record, and says whether there may be another: not after the end of the input, nor after a bad record.
 fn next_record() -> bool {
-    let mut bytes = [0u8; 8];
+    let mut bytes = [0u8; 12];
     let got = io::read_full(STDIN_FILENO, &mut bytes);
     if got == 0 {
         return false;
     }
-    if got == 8 {
+    if got == 12 {
         if take_record(&bytes) {
             return true;
         }

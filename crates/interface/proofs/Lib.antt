@@ -1,3 +1,2 @@
--- Outcomes of the calls over plain values, and the bytes of a number.
+-- Outcomes of the calls over plain values.
 pub mod Outcomes
-pub mod EightBytes

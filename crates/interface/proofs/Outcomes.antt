@@ -1,31 +1,28 @@
--- A call's outcome, by what writing the listing and what decoding the request gave. Assumes nothing.
-use mathlib.Core.Path.{_≡_, refl, sym, _∙_, ap}
-use mathlib.Core.List.{List, _++_}
-use Prim.Native.Nat.{ℕ, _≤_, _<_}
+-- A call's outcome, by what writing on the page and what decoding the request gave. Assumes nothing.
+use mathlib.Core.Path.{_≡_, sym, _∙_}
+use mathlib.Core.List.{List}
+use Prim.Native.Nat.{ℕ, _≤_, _<_, _*_, _/_}
 use native.Mathlib.Omega.{arith}
 use lib.ListN.{length}
-use lib.Dec.{T, leb, leb→le}
-use Rattle.rules.specs.Answers.{refusalNumber, answerNumber, writtenCount, explanationNumber, explanationFigures}
+use lib.Seq.{sets}
+use Rattle.rules.specs.Answers.{refusalNumber, answerNumber, writtenCount}
 use Rattle.rules.specs.Choosing.{Chosen}
 use Rattle.rules.specs.Listing.{listing, writing}
 use Rattle.rules.specs.declared.Refusal.{Refusal}
 use Rattle.rules.specs.declared.Answer.{Answer}
-use Rattle.rules.specs.declared.Explained.{Explained}
-use Rattle.rules.specs.declared.Explanation.{Explanation}
 use Rattle.rules.specs.declared.Written.{Written}
-use Rattle.request.specs.Layout.{decodeData, decodeExamination, faultNumber}
+use Rattle.words.specs.Bytes.{numberBytes}
+use Rattle.words.proofs.Stores.{sets-start, length-numbers}
+use Rattle.request.specs.Layout.{decode, faultNumber}
 use Rattle.request.specs.declared.Fault.{Fault}
 use Rattle.request.specs.declared.Data.{Data}
-use Rattle.request.specs.declared.Examination.{Examination}
-use Rattle.request.specs.declared.DecodedData.{DecodedData}
-use Rattle.request.specs.declared.DecodedExamination.{DecodedExamination}
-use Rattle.listing.specs.Pages.{Writes, over}
-use Rattle.listing.proofs.Page.{after-piece, over-start}
+use Rattle.request.specs.declared.Decoded.{Decoded}
+use Rattle.listing.specs.Pages.{Writes}
 use Rattle.listing.proofs.Outcomes.{writing-fits, page-fits, writing-long, page-long}
-use Rattle.interface.specs.Calls.{Outcome, outcome, numberOf, answered, malformed, onExamination, Choosing, figureBytes, figuresNumber, figured}
+use Rattle.interface.specs.Calls.{Outcome, outcome, numberOf, putOn, answered, malformed, onData, ChoosingData}
 
--- the largest refusal is 11
-pub refusal-most : (n : Refusal) → refusalNumber n ≤ 11
+-- a refusal's number is small
+pub refusal-most : (n : Refusal) → refusalNumber n ≤ 255
 unfolding refusalNumber
 refusal-most Refusal.PlantData = omega arith
 refusal-most Refusal.NoNumber = omega arith
@@ -44,7 +41,7 @@ module _ (answer : Answer) (page after : List ℕ) (w : Written) (done : Writes 
   pub listed :
       (count number : ℕ) → w ≡ Written.Bytes count → number ≡ answerNumber answer
       → outcome number after count ≡ answered answer page
-  unfolding answered numberOf writtenCount
+  unfolding putOn numberOf writtenCount
   listed count number b n =
       let e : writing (listing answer) page ≡ Written.Bytes count = sym (done .result) ∙ b in
       rw e (λ i. outcome (n i) (done .page i) count)
@@ -53,68 +50,54 @@ module _ (answer : Answer) (page after : List ℕ) (w : Written) (done : Writes 
   pub unlisted :
       (r : Refusal) (number : ℕ) → w ≡ Written.Refused r → number ≡ refusalNumber r
       → outcome number after 0 ≡ answered answer page
-  unfolding answered numberOf writtenCount
+  unfolding putOn numberOf writtenCount
   unlisted r number b n =
       let e : writing (listing answer) page ≡ Written.Refused r = sym (done .result) ∙ b in
       rw e (λ i. outcome (n i) (done .page i) 0)
 
--- a request to examine or to explain, by what its data are answered with
-module _ (answer : Examination → List ℕ → Outcome) (bytes page : List ℕ) (d : DecodedExamination) (decoded : d ≡ decodeExamination bytes) where
-  -- it is malformed
-  pub examination-malformed :
-      (fault : Fault) (number : ℕ) → d ≡ DecodedExamination.Malformed fault → number ≡ faultNumber fault
-      → outcome number page 0 ≡ onExamination answer (decodeExamination bytes) page
-  unfolding onExamination malformed
-  examination-malformed fault number m n = rw (sym decoded ∙ m) (λ i. outcome (n i) page 0)
+module _ (own : ℕ) (figures page : List ℕ) where
+  -- figures are on the page
+  pub figures-fit :
+      (after : List ℕ) (count : ℕ) → length figures ≤ length page / 8 → after ≡ sets page 0 (numberBytes figures)
+      → count ≡ 8 * length figures
+      → outcome own after count ≡ putOn own (numberBytes figures) page
+  unfolding putOn numberOf writtenCount
+  figures-fit after count fits e n =
+      let room : length (numberBytes figures) ≤ length page = omega (arith, length-numbers figures) in
+      rw (writing-fits (numberBytes figures) page room, page-fits (numberBytes figures) page room)
+      (λ i. outcome own ((e ∙ sets-start (numberBytes figures) page room) i) ((n ∙ sym (length-numbers figures)) i))
 
-  -- it holds data, and they are answered
-  pub examination-answered :
-      (x : Examination) (r : Outcome) → d ≡ DecodedExamination.Examination x → r ≡ answer x page
-      → r ≡ onExamination answer (decodeExamination bytes) page
-  unfolding onExamination
-  examination-answered x r m o = rw (sym decoded ∙ m) o
+  -- the page is too short for them
+  pub figures-short :
+      (number : ℕ) → length page / 8 < length figures → number ≡ refusalNumber Refusal.ShortPage
+      → outcome number page 0 ≡ putOn own (numberBytes figures) page
+  unfolding putOn numberOf writtenCount
+  figures-short number short n =
+      let long : length page < length (numberBytes figures) = omega (arith, length-numbers figures) in
+      rw (writing-long (numberBytes figures) page long, page-long (numberBytes figures) page long) (λ i. outcome (n i) page 0)
 
--- a request to choose
-module _ (bytes page : List ℕ) (d : DecodedData) (decoded : d ≡ decodeData bytes) where
+module _ (bytes page : List ℕ) (own : ℕ) (d : Decoded) (decoded : d ≡ decode bytes own) where
+  -- a malformed request
+  pub request-malformed :
+      (answer : Data → Outcome) (fault : Fault) (number : ℕ) → d ≡ Decoded.Malformed fault → number ≡ faultNumber fault
+      → outcome number page 0 ≡ onData answer page (decode bytes own)
+  unfolding onData malformed
+  request-malformed answer fault number m n = rw (sym decoded ∙ m) (λ i. outcome (n i) page 0)
+
   pub choosing-malformed :
-      (fault : Fault) (number : ℕ) → d ≡ DecodedData.Malformed fault → number ≡ faultNumber fault
-      → Choosing bytes page (outcome number page 0)
+      (fault : Fault) (number : ℕ) → d ≡ Decoded.Malformed fault → number ≡ faultNumber fault
+      → ChoosingData page (outcome number page 0) (decode bytes own)
   unfolding malformed
   choosing-malformed fault number m n = rw (sym decoded ∙ m) (λ i. outcome (n i) page 0)
 
+  -- one that holds data, and they are answered
+  pub request-answered :
+      (answer : Data → Outcome) (x : Data) (r : Outcome) → d ≡ Decoded.Data x → r ≡ answer x
+      → r ≡ onData answer page (decode bytes own)
+  unfolding onData
+  request-answered answer x r m o = rw (sym decoded ∙ m) o
+
   pub choosing-answered :
-      (x : Data) (a : Answer) (r : Outcome) → d ≡ DecodedData.Data x → Chosen (x .plant) (x .readings) a → r ≡ answered a page
-      → Choosing bytes page r
+      (x : Data) (a : Answer) (r : Outcome) → d ≡ Decoded.Data x → Chosen (x .plant) (x .readings) a → r ≡ answered a page
+      → ChoosingData page r (decode bytes own)
   choosing-answered x a r m c o = rw (sym decoded ∙ m) (a, c, o)
-
--- an explanation's figures on a page of at least 48 bytes
-pub figures-fit :
-    (e : Explanation) (f : Explained) (page after : List ℕ) (number : ℕ)
-    → 48 ≤ length page
-    → f ≡ explanationFigures e
-    → after ≡ over page 0 (figureBytes f)
-    → number ≡ explanationNumber e
-    → outcome number after 48 ≡ figured e page
-unfolding figured figuresNumber writtenCount
-figures-fit e f page after number room b a n =
-    rw (writing-fits (figureBytes (explanationFigures e)) page room, page-fits (figureBytes (explanationFigures e)) page room)
-    (λ i. outcome (n i) ((a ∙ (ap (λ (g : Explained). over page 0 (figureBytes g)) b ∙ over-start page (figureBytes (explanationFigures e)))) i) 48)
-
--- a shorter page
-pub figures-short :
-    (e : Explanation) (page : List ℕ) (number : ℕ) → length page < 48 → number ≡ refusalNumber Refusal.ShortPage
-    → outcome number page 0 ≡ figured e page
-unfolding figured figuresNumber writtenCount
-figures-short e page number long n =
-    rw (writing-long (figureBytes (explanationFigures e)) page long, page-long (figureBytes (explanationFigures e)) page long)
-    (λ i. outcome (n i) page 0)
-
--- a piece more, right after what has been written from the page's start
-pub one-more :
-    (p q r : List ℕ) (at : ℕ) (x y : List ℕ) → at ≡ length x → length x ≤ length p → q ≡ over p 0 x → r ≡ over q at y
-    → r ≡ over p 0 (x ++ y)
-one-more p q r at x y n fits e w = w ∙ after-piece p q 0 at x y (x ++ y) (omega (arith, fits)) (omega (arith, n)) e refl
-
--- a page of 48 bytes has room for fewer
-pub room : (p : List ℕ) (n : ℕ) → 48 ≤ length p → T (leb n 48) → n ≤ length p
-room p n h t = omega (arith, leb→le n 48 t)

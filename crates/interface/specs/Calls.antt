@@ -1,21 +1,22 @@
 -- What a call of the interface gives back, whole, for every byte string and every page. Assumes nothing.
-use Prim.Native.Nat.{ℕ, zero, suc, _/_, _%_}
+use Prim.Native.Nat.{ℕ}
 use mathlib.Core.Path.{_≡_}
-use mathlib.Core.List.{List, [], _∷_, _++_}
+use mathlib.Core.List.{List, [], _∷_}
 use Rattle.rules.specs.Answers.{refusalNumber, answerNumber, writtenCount, explanationNumber, explanationFigures}
 use Rattle.rules.specs.Listing.{listing, writing, pageAfter}
 use Rattle.rules.specs.Examining.{examine}
 use Rattle.rules.specs.Choosing.{Chosen}
 use Rattle.rules.specs.Explaining.{explain}
+use Rattle.rules.specs.declared.Candidate.{Candidate}
 use Rattle.rules.specs.declared.Answer.{Answer}
 use Rattle.rules.specs.declared.Written.{Written}
 use Rattle.rules.specs.declared.Explained.{Explained}
 use Rattle.rules.specs.declared.Explanation.{Explanation}
-use Rattle.request.specs.Layout.{decodeData, decodeExamination, faultNumber}
+use Rattle.words.specs.Bytes.{numberBytes}
+use Rattle.request.specs.Layout.{candidateWords, decode, askedCandidate, faultNumber}
 use Rattle.request.specs.declared.Fault.{Fault}
-use Rattle.request.specs.declared.Examination.{Examination}
-use Rattle.request.specs.declared.DecodedData.{DecodedData}
-use Rattle.request.specs.declared.DecodedExamination.{DecodedExamination}
+use Rattle.request.specs.declared.Data.{Data}
+use Rattle.request.specs.declared.Decoded.{Decoded}
 
 -- the number, the page afterwards and the number of bytes written
 pub record Outcome : Type 0 where
@@ -26,71 +27,62 @@ pub record Outcome : Type 0 where
 abbrev pub outcome : ℕ → List ℕ → ℕ → Outcome
 outcome number page written = record { number = number; page = page; written = written }
 
--- the answer's own number where its listing fits, 0 for a sheet; else that of what writing refuses, 11
-unfoldable pub numberOf : Answer → Written → ℕ
-numberOf answer (Written.Bytes n) = answerNumber answer
-numberOf answer (Written.Refused r) = refusalNumber r
+-- the own number of what is written where it fits the page; else that of what writing refuses, 11
+unfoldable pub numberOf : ℕ → Written → ℕ
+numberOf own (Written.Bytes n) = own
+numberOf own (Written.Refused r) = refusalNumber r
 
--- an answer listed on a page
-unfoldable pub answered : Answer → List ℕ → Outcome
-answered answer page =
-    let result = writing (listing answer) page in
-    outcome (numberOf answer result) (pageAfter (listing answer) page) (writtenCount result)
+-- bytes put on a page, and the number that goes with them
+unfoldable pub putOn : ℕ → List ℕ → List ℕ → Outcome
+putOn own bytes page =
+    let result = writing bytes page in
+    outcome (numberOf own result) (pageAfter bytes page) (writtenCount result)
 
--- a malformed request: its number, and nothing written
+-- a decoded request: malformed, with its number and nothing written, or what its data are answered with
 unfoldable pub malformed : Fault → List ℕ → Outcome
 malformed fault page = outcome (faultNumber fault) page 0
 
--- a decoded request: malformed, or what its data are answered with
-unfoldable pub onExamination : (Examination → List ℕ → Outcome) → DecodedExamination → List ℕ → Outcome
-onExamination answer (DecodedExamination.Malformed fault) page = malformed fault page
-onExamination answer (DecodedExamination.Examination x) page = answer x page
+unfoldable pub onData : (Data → Outcome) → List ℕ → Decoded → Outcome
+onData answer page (Decoded.Malformed fault) = malformed fault page
+onData answer page (Decoded.Data x) = answer x
+
+-- an answer listed on a page, its number 0 for a sheet
+abbrev pub answered : Answer → List ℕ → Outcome
+answered answer page = putOn (answerNumber answer) (listing answer) page
 
 -- a request to examine
-abbrev pub examinedBy : Examination → List ℕ → Outcome
-examinedBy x page = answered (examine (x .plant) (x .readings) (x .candidate)) page
+abbrev pub examinedAt : Candidate → List ℕ → Data → Outcome
+examinedAt y page x = answered (examine (x .plant) (x .readings) y) page
 
 unfoldable pub examined : List ℕ → List ℕ → Outcome
-examined bytes page = onExamination examinedBy (decodeExamination bytes) page
+examined bytes page = onData (examinedAt (askedCandidate bytes) page) page (decode bytes candidateWords)
 
 -- a request to choose: malformed, or the listing of the answer that keeps demand 3, which is one (`chosen-once`)
-abbrev pub ChoosingData : DecodedData → List ℕ → Outcome → Type 0
-ChoosingData (DecodedData.Malformed fault) page o = o ≡ malformed fault page
-ChoosingData (DecodedData.Data x) page o = (a : Answer) × Chosen (x .plant) (x .readings) a × (o ≡ answered a page)
+abbrev pub ChoosingData : List ℕ → Outcome → Decoded → Type 0
+ChoosingData page o (Decoded.Malformed fault) = o ≡ malformed fault page
+ChoosingData page o (Decoded.Data x) = (a : Answer) × Chosen (x .plant) (x .readings) a × (o ≡ answered a page)
 
 abbrev pub Choosing : List ℕ → List ℕ → Outcome → Type 0
-Choosing bytes page o = ChoosingData (decodeData bytes) page o
+Choosing bytes page o = ChoosingData page o (decode bytes 0)
 
--- a number's k lowest bytes, the lowest first
-abbrev pub lowBytes : ℕ → ℕ → List ℕ
-lowBytes zero n = []
-lowBytes (suc k) n = n % 256 ∷ lowBytes k (n / 256)
+-- the explaining figures in the page's order
+abbrev pub figuresOf : Explained → List ℕ
+figuresOf e =
+    e .denitrified
+    ∷ e .removable
+    ∷ e .solids
+    ∷ e .«sludge_volume»
+    ∷ e .surface
+    ∷ e .depth
+    ∷ []
 
--- the explaining figures in order, eight bytes each
-abbrev pub figureBytes : Explained → List ℕ
-figureBytes e =
-    lowBytes 8 (e .denitrified)
-    ++ lowBytes 8 (e .removable)
-    ++ lowBytes 8 (e .solids)
-    ++ lowBytes 8 (e .«sludge_volume»)
-    ++ lowBytes 8 (e .surface)
-    ++ lowBytes 8 (e .depth)
-
--- the explanation's own number where its figures fit, 0 if it is not refused; else 11
-unfoldable pub figuresNumber : Explanation → Written → ℕ
-figuresNumber explanation (Written.Bytes n) = explanationNumber explanation
-figuresNumber explanation (Written.Refused r) = refusalNumber r
-
--- an explanation's figures on a page
-unfoldable pub figured : Explanation → List ℕ → Outcome
-figured explanation page =
-    let bytes = figureBytes (explanationFigures explanation) in
-    let result = writing bytes page in
-    outcome (figuresNumber explanation result) (pageAfter bytes page) (writtenCount result)
+-- an explanation's figures on a page, its number 0 if it is not refused
+abbrev pub figured : Explanation → List ℕ → Outcome
+figured explanation page = putOn (explanationNumber explanation) (numberBytes (figuresOf (explanationFigures explanation))) page
 
 -- a request to explain
-abbrev pub explainedBy : Examination → List ℕ → Outcome
-explainedBy x page = figured (explain (x .plant) (x .readings) (x .candidate)) page
+abbrev pub explainedAt : Candidate → List ℕ → Data → Outcome
+explainedAt y page x = figured (explain (x .plant) (x .readings) y) page
 
 unfoldable pub explained : List ℕ → List ℕ → Outcome
-explained bytes page = onExamination explainedBy (decodeExamination bytes) page
+explained bytes page = onData (explainedAt (askedCandidate bytes) page) page (decode bytes candidateWords)

@@ -1,18 +1,15 @@
 // The calls for C: a request's bytes in; out the answer's number, its listing on a page that the caller lends, and the
 // number of bytes written there.
-use request::DecodedData;
-use request::DecodedExamination;
+use request::Decoded;
 use rules::Answer;
 use rules::Explained;
 use rules::Explanation;
 use rules::Refusal;
 use rules::Written;
 ghost use mathlib.Core.Path.{_≡_};
-ghost use Prim.Native.Nat.{_+_, _≤_};
-ghost use lib.ListN.{length};
 ghost use Rattle.rules.specs.Answers.{refusalNumber, answerNumber, explanationNumber, explanationFigures};
-ghost use Rattle.interface.specs.Calls.{outcome, answered, examined, Choosing, lowBytes, figureBytes, figured, explained};
-ghost use Rattle.listing.specs.Pages.{over};
+ghost use Rattle.words.specs.Bytes.{numberBytes};
+ghost use Rattle.interface.specs.Calls.{outcome, putOn, answered, examined, Choosing, figured, explained};
 
 // The paper's number of a refusal.
 fn refusal_number(refusal: Refusal) -> u32
@@ -53,15 +50,15 @@ fn put(answer: Answer, page: &mut [u8], written: &mut u64) -> u32
 pub extern "C" fn pewgull_examine(request: &[u8], page: &mut [u8], written: &mut u64) -> u32
     ensures { λ r. ⌜ outcome r (now (page .exit)) (now (written .exit)) ≡ examined (now (request .entry)) (now (page .entry)) ⌝ }
 {
-    match request::decode_examination(request) {
-        DecodedExamination::Malformed(fault) => {
+    match request::decode(request, request::CANDIDATE_WORDS) {
+        Decoded::Malformed(fault) => {
             *written = 0;
             request::fault_number(fault)
         }
-        DecodedExamination::Examination(examination) => {
-            let plant = examination.plant;
-            let readings = examination.readings;
-            let candidate = examination.candidate;
+        Decoded::Data(data) => {
+            let plant = data.plant;
+            let readings = data.readings;
+            let candidate = request::candidate(request);
             put(pewgull::examine(plant, readings, candidate), page, written)
         }
     }
@@ -72,12 +69,12 @@ pub extern "C" fn pewgull_examine(request: &[u8], page: &mut [u8], written: &mut
 pub extern "C" fn pewgull_choose(request: &[u8], page: &mut [u8], written: &mut u64) -> u32
     ensures { λ r. ⌜ Choosing (now (request .entry)) (now (page .entry)) (outcome r (now (page .exit)) (now (written .exit))) ⌝ }
 {
-    match request::decode_data(request) {
-        DecodedData::Malformed(fault) => {
+    match request::decode(request, 0) {
+        Decoded::Malformed(fault) => {
             *written = 0;
             request::fault_number(fault)
         }
-        DecodedData::Data(data) => {
+        Decoded::Data(data) => {
             let plant = data.plant;
             let readings = data.readings;
             put(pewgull::choose(plant, readings), page, written)
@@ -112,43 +109,36 @@ fn explanation_figures(explanation: Explanation) -> Explained
     }
 }
 
-// Writes a number in eight bytes, the lowest first, at an index of the page.
-fn put_eight(page: &mut [u8], at: usize, n: u64)
-    requires { ⌜ at + 8 ≤ length (now page) ⌝ }
-    ensures { λ _. ⌜ now (page .exit) ≡ over (now (page .entry)) at (lowBytes 8 n) ⌝ }
+// Writes figures on the page, eight bytes each, and gives the number that goes with them. A page too short for them is
+// answered by 11, and nothing is written.
+fn put_figures(number: u32, figures: &[u64], page: &mut [u8], written: &mut u64) -> u32
+    ensures { λ r. ⌜ outcome r (now (page .exit)) (now (written .exit))
+        ≡ putOn number (numberBytes (now (figures .entry))) (now (page .entry)) ⌝ }
 {
-    let mut rest = n;
-    'byte: for k in 0..8 {
-        page[at + k] = (rest % 256) as u8;
-        rest /= 256;
-    }
-}
-
-// Writes six figures from the page's start.
-fn put_six(page: &mut [u8], figures: Explained)
-    requires { ⌜ 48 ≤ length (now page) ⌝ }
-    ensures { λ _. ⌜ now (page .exit) ≡ over (now (page .entry)) 0 (figureBytes figures) ⌝ }
-{
-    put_eight(page, 0, figures.denitrified);
-    put_eight(page, 8, figures.removable);
-    put_eight(page, 16, figures.solids);
-    put_eight(page, 24, figures.sludge_volume);
-    put_eight(page, 32, figures.surface);
-    put_eight(page, 40, figures.depth);
-}
-
-// Writes the figures of an explanation on the page, and gives its number. A page under 48 bytes is answered by 11, and
-// nothing is written.
-fn put_figures(explanation: Explanation, page: &mut [u8], written: &mut u64) -> u32
-    ensures { λ r. ⌜ outcome r (now (page .exit)) (now (written .exit)) ≡ figured explanation (now (page .entry)) ⌝ }
-{
-    if page.len() < 48 {
+    if page.len() / 8 < figures.len() {
         *written = 0;
         return refusal_number(Refusal::ShortPage);
     }
-    put_six(page, explanation_figures(explanation));
-    *written = 48;
-    explanation_number(explanation)
+    words::put_numbers(page, figures);
+    *written = 8 * figures.len() as u64;
+    number
+}
+
+// Writes the figures of an explanation on the page, and gives its number.
+fn put_explanation(explanation: Explanation, page: &mut [u8], written: &mut u64) -> u32
+    ensures { λ r. ⌜ outcome r (now (page .exit)) (now (written .exit)) ≡ figured explanation (now (page .entry)) ⌝ }
+{
+    let number = explanation_number(explanation);
+    let explained = explanation_figures(explanation);
+    let figures = [
+        explained.denitrified,
+        explained.removable,
+        explained.solids,
+        explained.sludge_volume,
+        explained.surface,
+        explained.depth,
+    ];
+    put_figures(number, &figures, page, written)
 }
 
 // Explains the candidate of a request. A malformed request is answered by 101 to 103, and nothing is written.
@@ -156,16 +146,16 @@ fn put_figures(explanation: Explanation, page: &mut [u8], written: &mut u64) -> 
 pub extern "C" fn pewgull_explain(request: &[u8], page: &mut [u8], written: &mut u64) -> u32
     ensures { λ r. ⌜ outcome r (now (page .exit)) (now (written .exit)) ≡ explained (now (request .entry)) (now (page .entry)) ⌝ }
 {
-    match request::decode_examination(request) {
-        DecodedExamination::Malformed(fault) => {
+    match request::decode(request, request::CANDIDATE_WORDS) {
+        Decoded::Malformed(fault) => {
             *written = 0;
             request::fault_number(fault)
         }
-        DecodedExamination::Examination(examination) => {
-            let plant = examination.plant;
-            let readings = examination.readings;
-            let candidate = examination.candidate;
-            put_figures(pewgull::explain(plant, readings, candidate), page, written)
+        Decoded::Data(data) => {
+            let plant = data.plant;
+            let readings = data.readings;
+            let candidate = request::candidate(request);
+            put_explanation(pewgull::explain(plant, readings, candidate), page, written)
         }
     }
 }

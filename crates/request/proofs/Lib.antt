@@ -1,3 +1,3 @@
--- Laws that the proofs of this crate cite, and a worked request.
-pub mod Checks
+-- Laws that the proofs of other crates cite, and a worked request.
+pub mod Lengths
 pub mod CaseA

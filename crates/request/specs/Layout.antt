@@ -1,100 +1,126 @@
--- The layout of a request, version 1: 29 words to choose, 32 words to examine, each a 32-bit unsigned number in four bytes,
--- the lowest first. Assumes nothing.
+-- The layout of a request of the newest version, the only one that is answered: the data, which are version, plant and
+-- readings, and then the own words of the call that it is for, each word a 32-bit unsigned number in four bytes, the lowest
+-- first. Assumes nothing.
 use Prim.Native.Nat.{ℕ, _+_, _*_}
 use mathlib.Core.Bool.{Bool, cond, _&&_}
 use mathlib.Core.List.{List}
 use lib.Dec.{leb, eqb}
 use lib.ListN.{length, getD}
+use Rattle.words.specs.Bytes.{word, wordsFrom}
 use Rattle.request.specs.Kinds.{processOf, precipitantOf, tankFlowOf, removalOf, primarySettlingOf, readingOf}
+use Rattle.rules.specs.declared.Process.{Process}
+use Rattle.rules.specs.declared.Precipitant.{Precipitant}
+use Rattle.rules.specs.declared.TankFlow.{TankFlow}
+use Rattle.rules.specs.declared.Removal.{Removal}
+use Rattle.rules.specs.declared.PrimarySettling.{PrimarySettling}
 use Rattle.rules.specs.declared.Plant.{Plant}
 use Rattle.rules.specs.declared.Readings.{Readings}
 use Rattle.rules.specs.declared.Candidate.{Candidate}
 use Rattle.request.specs.declared.Fault.{Fault}
-use Rattle.request.specs.declared.DecodedData.{DecodedData}
-use Rattle.request.specs.declared.DecodedExamination.{DecodedExamination}
+use Rattle.request.specs.declared.Decoded.{Decoded}
 
--- the word at the index i
-unfoldable pub word : List ℕ → ℕ → ℕ
-word bytes i =
-    getD bytes (4 * i) 0
-    + 0x100 * getD bytes (4 * i + 1) 0
-    + 0x1_0000 * getD bytes (4 * i + 2) 0
-    + 0x100_0000 * getD bytes (4 * i + 3) 0
+-- the newest version
+abbrev pub version : ℕ
+version = 1
 
--- the plant, words 1 to 18
-unfoldable pub plantOf : List ℕ → Plant
-plantOf bytes =
+-- the data's words, and the own words of a call that is asked of a candidate
+abbrev pub dataWords : ℕ
+dataWords = 29
+
+abbrev pub candidateWords : ℕ
+candidateWords = 3
+
+-- the bytes of a request with so many own words, and of the longest
+abbrev pub requestLength : ℕ → ℕ
+requestLength own = 4 * (dataWords + own)
+
+abbrev pub longestRequest : ℕ
+longestRequest = 4_096
+
+-- the plant with these kinds, its figures the words 1 to 13 of the data
+abbrev pub plantWith : List ℕ → Process → Precipitant → TankFlow → Removal → PrimarySettling → Plant
+plantWith words process precipitant tank removal settling =
     record {
-      load = word bytes 1;
-      flow = word bytes 2;
-      «wet_weather_flow» = word bytes 3;
-      «design_temperature» = word bytes 4;
-      «aeration_temperature» = word bytes 5;
-      «sludge_volume_index» = word bytes 6;
-      «nitrate_target» = word bytes 7;
-      «phosphorus_target» = word bytes 8;
-      «carbon_peak» = word bytes 9;
-      «nitrogen_peak» = word bytes 10;
-      «oxygen_saturation» = word bytes 11;
-      «site_surface» = word bytes 12;
-      «site_depth» = word bytes 13;
-      process = processOf (word bytes 14);
-      precipitant = precipitantOf (word bytes 15);
-      tank = tankFlowOf (word bytes 16);
-      removal = removalOf (word bytes 17);
-      «primary_settling» = primarySettlingOf (word bytes 18);
+      load = getD words 1 0;
+      flow = getD words 2 0;
+      «wet_weather_flow» = getD words 3 0;
+      «design_temperature» = getD words 4 0;
+      «aeration_temperature» = getD words 5 0;
+      «sludge_volume_index» = getD words 6 0;
+      «nitrate_target» = getD words 7 0;
+      «phosphorus_target» = getD words 8 0;
+      «carbon_peak» = getD words 9 0;
+      «nitrogen_peak» = getD words 10 0;
+      «oxygen_saturation» = getD words 11 0;
+      «site_surface» = getD words 12 0;
+      «site_depth» = getD words 13 0;
+      process = process;
+      precipitant = precipitant;
+      tank = tank;
+      removal = removal;
+      «primary_settling» = settling;
     }
 
--- the readings, words 19 to 28
-unfoldable pub readingsOf : List ℕ → Readings
-readingsOf bytes =
-    record {
-      bod = readingOf (word bytes 19) (word bytes 20);
-      cod = readingOf (word bytes 21) (word bytes 22);
-      solids = readingOf (word bytes 23) (word bytes 24);
-      nitrogen = readingOf (word bytes 25) (word bytes 26);
-      phosphorus = readingOf (word bytes 27) (word bytes 28);
-    }
+-- the plant, with the kinds of the words 14 to 18
+abbrev pub plantOf : List ℕ → Plant
+plantOf words =
+    plantWith words
+    (processOf (getD words 14 0))
+    (precipitantOf (getD words 15 0))
+    (tankFlowOf (getD words 16 0))
+    (removalOf (getD words 17 0))
+    (primarySettlingOf (getD words 18 0))
 
--- the candidate, words 29 to 31
-unfoldable pub candidateOf : List ℕ → Candidate
-candidateOf bytes = record { fraction = word bytes 29; «return_ratio» = word bytes 30; thickening = word bytes 31 }
+-- the readings, words 19 to 28 of the data
+abbrev pub readingsOf : List ℕ → Readings
+readingsOf words =
+    record {
+      bod = readingOf (getD words 19 0) (getD words 20 0);
+      cod = readingOf (getD words 21 0) (getD words 22 0);
+      solids = readingOf (getD words 23 0) (getD words 24 0);
+      nitrogen = readingOf (getD words 25 0) (getD words 26 0);
+      phosphorus = readingOf (getD words 27 0) (getD words 28 0);
+    }
 
 -- every kind is one of the layout's: processes to readings
-unfoldable pub kindsKnown : List ℕ → Bool
-kindsKnown bytes =
-    leb (word bytes 14) 4
-    && leb (word bytes 15) 1
-    && leb (word bytes 16) 1
-    && leb (word bytes 17) 2
-    && leb (word bytes 18) 2
-    && leb (word bytes 19) 2
-    && leb (word bytes 21) 2
-    && leb (word bytes 23) 2
-    && leb (word bytes 25) 2
-    && leb (word bytes 27) 2
+abbrev pub kindsKnown : List ℕ → Bool
+kindsKnown words =
+    leb (getD words 14 0) 4
+    && leb (getD words 15 0) 1
+    && leb (getD words 16 0) 1
+    && leb (getD words 17 0) 2
+    && leb (getD words 18 0) 2
+    && leb (getD words 19 0) 2
+    && leb (getD words 21 0) 2
+    && leb (getD words 23 0) 2
+    && leb (getD words 25 0) 2
+    && leb (getD words 27 0) 2
 
--- 101, 102 and 103 in order, else what a well-formed request of this length holds
-unfoldable pub checked : {A : Type 0} → ℕ → (Fault → A) → A → List ℕ → A
-checked size malformed held bytes =
-    cond (eqb (length bytes) size)
-    (cond (eqb (word bytes 0) 1) (cond (kindsKnown bytes) held (malformed Fault.Kind)) (malformed Fault.Version))
-    (malformed Fault.Length)
+-- the data's words decoded: 102 and 103 in order, else what they hold
+unfoldable pub decodeWords : List ℕ → Decoded
+decodeWords words =
+    cond (eqb (getD words 0 0) version)
+    (cond (kindsKnown words)
+    (Decoded.Data (record { plant = plantOf words; readings = readingsOf words }))
+    (Decoded.Malformed Fault.Kind))
+    (Decoded.Malformed Fault.Version)
 
--- a request to choose, 116 bytes
-unfoldable pub decodeData : List ℕ → DecodedData
-decodeData bytes =
-    checked 116 DecodedData.Malformed (DecodedData.Data (record { plant = plantOf bytes; readings = readingsOf bytes })) bytes
+-- the data of a request for a call with so many own words: 101 by its length, else what its data are decoded to
+unfoldable pub decode : List ℕ → ℕ → Decoded
+decode bytes own =
+    cond (eqb (length bytes) (requestLength own)) (decodeWords (wordsFrom bytes 0 dataWords)) (Decoded.Malformed Fault.Length)
 
--- a request to examine or to explain, 128 bytes
-unfoldable pub decodeExamination : List ℕ → DecodedExamination
-decodeExamination bytes =
-    checked 128 DecodedExamination.Malformed
-    (DecodedExamination.Examination (record { plant = plantOf bytes; readings = readingsOf bytes; candidate = candidateOf bytes }))
-    bytes
+-- the candidate that a call is asked of: the first three of its own words, which come after the data
+abbrev pub askedCandidate : List ℕ → Candidate
+askedCandidate bytes =
+    record {
+      fraction = word bytes dataWords;
+      «return_ratio» = word bytes (dataWords + 1);
+      thickening = word bytes (dataWords + 2);
+    }
 
 -- a malformed request's number
-unfoldable pub faultNumber : Fault → ℕ
+abbrev pub faultNumber : Fault → ℕ
 faultNumber Fault.Length = 101
 faultNumber Fault.Version = 102
 faultNumber Fault.Kind = 103

@@ -1,4 +1,4 @@
-// A request's bytes decoded by the layout of version 1, or found malformed.
+// A request's bytes decoded by the layout of the newest version, or found malformed.
 use rules::Candidate;
 use rules::Plant;
 use rules::Precipitant;
@@ -10,24 +10,16 @@ use rules::Removal;
 use rules::Steps;
 use rules::TankFlow;
 ghost use mathlib.Core.Path.{_≡_};
-ghost use Prim.Native.Nat.{_+_, _*_, _≤_, _<_};
+ghost use Prim.Native.Nat.{_≤_};
 ghost use lib.ListN.{length};
-ghost use lib.Ieee.{binary32, ofBits};
 ghost use Rattle.request.specs.Kinds.{processOf, precipitantOf, tankFlowOf, removalOf, primarySettlingOf, readingOf};
-ghost use Rattle.request.specs.Layout.{word, plantOf, readingsOf, candidateOf, kindsKnown};
-ghost use Rattle.request.specs.Layout.{decodeData, decodeExamination, faultNumber};
+ghost use Rattle.request.specs.Layout.{requestLength, longestRequest, candidateWords};
+ghost use Rattle.request.specs.Layout.{plantOf, readingsOf, kindsKnown, decodeWords, decode, askedCandidate, faultNumber};
 
-// What a request to choose holds.
+// What every request holds besides its call's own words.
 pub struct Data {
     pub plant: Plant,
     pub readings: Readings,
-}
-
-// What a request to examine or to explain holds.
-pub struct Examination {
-    pub plant: Plant,
-    pub readings: Readings,
-    pub candidate: Candidate,
 }
 
 // What is wrong with a malformed request, in the order of the tests: its length, its version, or a kind's code.
@@ -38,49 +30,22 @@ pub enum Fault {
 }
 
 // What decoding gives: what the request holds, or what is wrong with it.
-pub enum DecodedData {
+pub enum Decoded {
     Data(Data),
     Malformed(Fault),
 }
 
-pub enum DecodedExamination {
-    Examination(Examination),
-    Malformed(Fault),
-}
-
-// The layout's version.
+// The newest version, the only one that is answered.
 const VERSION: u32 = 1;
 
-// A byte as a wider number.
-fn wide(byte: u8) -> u32
-    ensures { λ r. ⌜ (r ≡ byte) × (r < 256) ⌝ }
-{
-    byte as u32
-}
+// The words of the data: version, plant and readings.
+const DATA_WORDS: usize = 29;
 
-// The word at an index: four bytes, the lowest first.
-pub fn word(bytes: &[u8], i: usize) -> u32
-    requires { ⌜ 4 * i + 4 ≤ length (now bytes) ⌝ }
-    ensures { λ r. ⌜ r ≡ word (now (bytes .entry)) i ⌝ }
-{
-    let at = 4 * i;
-    wide(bytes[at])
-        + 0x100 * wide(bytes[at + 1])
-        + 0x1_0000 * wide(bytes[at + 2])
-        + 0x100_0000 * wide(bytes[at + 3])
-}
+// The own words of a call that is asked of a candidate.
+pub const CANDIDATE_WORDS: usize = 3;
 
-// The f32 with these bits. A pattern of a NaN, one above infinity's when the sign is cut off, gives the NaN that 0 / 0 is.
-fn float(bits: u32) -> f32
-    ensures { λ r. ⌜ r ≡ ofBits binary32 bits ⌝ }
-{
-    if 0x7f80_0000 < bits % 0x8000_0000 {
-        let zero: f32 = 0.0;
-        zero / zero
-    } else {
-        f32::from_bits(bits)
-    }
-}
+// The bytes of the longest request.
+pub const LONGEST_REQUEST: usize = 4_096;
 
 // The kinds by their codes. A code above the last stands with the last: `kinds_known` refuses it.
 fn process(code: u32) -> Process
@@ -138,119 +103,106 @@ fn reading(code: u32, value: u32) -> Reading
     ensures { λ r. ⌜ r ≡ readingOf code value ⌝ }
 {
     match code {
-        0 => Reading::Measured(float(value)),
-        1 => Reading::Below(float(value)),
+        0 => Reading::Measured(words::float(value)),
+        1 => Reading::Below(words::float(value)),
         _ => Reading::Heads(value),
     }
 }
 
 // Every kind is one of the layout's.
-fn kinds_known(bytes: &[u8]) -> bool
-    requires { ⌜ 116 ≤ length (now bytes) ⌝ }
-    ensures { λ r. ⌜ r ≡ kindsKnown (now (bytes .entry)) ⌝ }
+fn kinds_known(words: [u32; DATA_WORDS]) -> bool
+    ensures { λ r. ⌜ r ≡ kindsKnown words ⌝ }
 {
-    (word(bytes, 14) <= 4)
-        & (word(bytes, 15) <= 1)
-        & (word(bytes, 16) <= 1)
-        & (word(bytes, 17) <= 2)
-        & (word(bytes, 18) <= 2)
-        & (word(bytes, 19) <= 2)
-        & (word(bytes, 21) <= 2)
-        & (word(bytes, 23) <= 2)
-        & (word(bytes, 25) <= 2)
-        & (word(bytes, 27) <= 2)
+    (words[14] <= 4)
+        & (words[15] <= 1)
+        & (words[16] <= 1)
+        & (words[17] <= 2)
+        & (words[18] <= 2)
+        & (words[19] <= 2)
+        & (words[21] <= 2)
+        & (words[23] <= 2)
+        & (words[25] <= 2)
+        & (words[27] <= 2)
 }
 
 // The plant, words 1 to 18.
-fn plant(bytes: &[u8]) -> Plant
-    requires { ⌜ 116 ≤ length (now bytes) ⌝ }
-    ensures { λ r. ⌜ r ≡ plantOf (now (bytes .entry)) ⌝ }
+fn plant(words: [u32; DATA_WORDS]) -> Plant
+    ensures { λ r. ⌜ r ≡ plantOf words ⌝ }
 {
     Plant {
-        load: word(bytes, 1),
-        flow: word(bytes, 2),
-        wet_weather_flow: word(bytes, 3),
-        design_temperature: word(bytes, 4),
-        aeration_temperature: word(bytes, 5),
-        sludge_volume_index: word(bytes, 6),
-        nitrate_target: word(bytes, 7),
-        phosphorus_target: word(bytes, 8),
-        carbon_peak: word(bytes, 9),
-        nitrogen_peak: word(bytes, 10),
-        oxygen_saturation: word(bytes, 11),
-        site_surface: word(bytes, 12),
-        site_depth: word(bytes, 13),
-        process: process(word(bytes, 14)),
-        precipitant: precipitant(word(bytes, 15)),
-        tank: tank_flow(word(bytes, 16)),
-        removal: removal(word(bytes, 17)),
-        primary_settling: primary_settling(word(bytes, 18)),
+        load: words[1],
+        flow: words[2],
+        wet_weather_flow: words[3],
+        design_temperature: words[4],
+        aeration_temperature: words[5],
+        sludge_volume_index: words[6],
+        nitrate_target: words[7],
+        phosphorus_target: words[8],
+        carbon_peak: words[9],
+        nitrogen_peak: words[10],
+        oxygen_saturation: words[11],
+        site_surface: words[12],
+        site_depth: words[13],
+        process: process(words[14]),
+        precipitant: precipitant(words[15]),
+        tank: tank_flow(words[16]),
+        removal: removal(words[17]),
+        primary_settling: primary_settling(words[18]),
     }
 }
 
 // The readings, words 19 to 28.
-fn readings(bytes: &[u8]) -> Readings
-    requires { ⌜ 116 ≤ length (now bytes) ⌝ }
-    ensures { λ r. ⌜ r ≡ readingsOf (now (bytes .entry)) ⌝ }
+fn readings(words: [u32; DATA_WORDS]) -> Readings
+    ensures { λ r. ⌜ r ≡ readingsOf words ⌝ }
 {
     Readings {
-        bod: reading(word(bytes, 19), word(bytes, 20)),
-        cod: reading(word(bytes, 21), word(bytes, 22)),
-        solids: reading(word(bytes, 23), word(bytes, 24)),
-        nitrogen: reading(word(bytes, 25), word(bytes, 26)),
-        phosphorus: reading(word(bytes, 27), word(bytes, 28)),
+        bod: reading(words[19], words[20]),
+        cod: reading(words[21], words[22]),
+        solids: reading(words[23], words[24]),
+        nitrogen: reading(words[25], words[26]),
+        phosphorus: reading(words[27], words[28]),
     }
 }
 
-// The candidate, words 29 to 31.
-fn candidate(bytes: &[u8]) -> Candidate
-    requires { ⌜ 128 ≤ length (now bytes) ⌝ }
-    ensures { λ r. ⌜ r ≡ candidateOf (now (bytes .entry)) ⌝ }
+// The data's words decoded.
+fn decode_words(words: [u32; DATA_WORDS]) -> Decoded
+    ensures { λ r. ⌜ r ≡ decodeWords words ⌝ }
+{
+    if words[0] != VERSION {
+        return Decoded::Malformed(Fault::Version);
+    }
+    if !kinds_known(words) {
+        return Decoded::Malformed(Fault::Kind);
+    }
+    Decoded::Data(Data {
+        plant: plant(words),
+        readings: readings(words),
+    })
+}
+
+// The data of a request for a call with so many own words.
+pub fn decode(bytes: &[u8], own: usize) -> Decoded
+    requires { ⌜ requestLength own ≤ longestRequest ⌝ }
+    ensures { λ r. ⌜ r ≡ decode (now (bytes .entry)) own ⌝ }
+{
+    if bytes.len() != 4 * (DATA_WORDS + own) {
+        return Decoded::Malformed(Fault::Length);
+    }
+    let mut words = [0u32; DATA_WORDS];
+    words::read_words(bytes, &mut words);
+    decode_words(words)
+}
+
+// The candidate that a call is asked of: the call's own words, which come after the data.
+pub fn candidate(bytes: &[u8]) -> Candidate
+    requires { ⌜ requestLength candidateWords ≤ length (now bytes) ⌝ }
+    ensures { λ r. ⌜ r ≡ askedCandidate (now (bytes .entry)) ⌝ }
 {
     Candidate {
-        fraction: word(bytes, 29),
-        return_ratio: word(bytes, 30),
-        thickening: word(bytes, 31),
+        fraction: words::word(bytes, DATA_WORDS),
+        return_ratio: words::word(bytes, DATA_WORDS + 1),
+        thickening: words::word(bytes, DATA_WORDS + 2),
     }
-}
-
-// A request to choose, of 29 words.
-pub fn decode_data(bytes: &[u8]) -> DecodedData
-    ensures { λ r. ⌜ r ≡ decodeData (now (bytes .entry)) ⌝ }
-{
-    if bytes.len() != 116 {
-        return DecodedData::Malformed(Fault::Length);
-    }
-    if word(bytes, 0) != VERSION {
-        return DecodedData::Malformed(Fault::Version);
-    }
-    if !kinds_known(bytes) {
-        return DecodedData::Malformed(Fault::Kind);
-    }
-    DecodedData::Data(Data {
-        plant: plant(bytes),
-        readings: readings(bytes),
-    })
-}
-
-// A request to examine or to explain, of 32 words.
-pub fn decode_examination(bytes: &[u8]) -> DecodedExamination
-    ensures { λ r. ⌜ r ≡ decodeExamination (now (bytes .entry)) ⌝ }
-{
-    if bytes.len() != 128 {
-        return DecodedExamination::Malformed(Fault::Length);
-    }
-    if word(bytes, 0) != VERSION {
-        return DecodedExamination::Malformed(Fault::Version);
-    }
-    if !kinds_known(bytes) {
-        return DecodedExamination::Malformed(Fault::Kind);
-    }
-    DecodedExamination::Examination(Examination {
-        plant: plant(bytes),
-        readings: readings(bytes),
-        candidate: candidate(bytes),
-    })
 }
 
 // The number that a malformed request is answered by.

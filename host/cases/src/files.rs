@@ -4,17 +4,19 @@ use crate::collection::{Case, Operation};
 use crate::model::Outcome;
 
 /// Largest size of the stored requests.
-pub const MOST_BYTES: usize = 100_000;
+pub const MOST_BYTES: usize = 200_000;
 
-/// A case as a record of stdin: operation, page length, request.
+/// A case as a record of stdin: operation, page length, request's length,
+/// request.
 pub fn record(case: &Case) -> Vec<u8> {
     let operation: u32 = match case.operation {
         Operation::Examine => 0,
         Operation::Choose => 1,
     };
-    let mut bytes = operation.to_le_bytes().to_vec();
-    bytes.extend(case.page_length.to_le_bytes());
-    bytes.extend(case.request_bytes());
+    let request = case.request_bytes();
+    let header = [operation, case.page_length, request.len() as u32];
+    let mut bytes: Vec<u8> = header.iter().flat_map(|word| word.to_le_bytes()).collect();
+    bytes.extend(request);
     bytes
 }
 

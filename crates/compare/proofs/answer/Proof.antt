@@ -6,25 +6,17 @@ use borrow.Author.Needs.{needs}
 use Rattle.compare.proofs.answer.Statement.{statement}
 use Rattle.compare.proofs.answer.Tie as tie
 
-slice-relend-prefix-call : tie.Need-slice-relend-prefix-call
-slice-relend-prefix-call c = search needs
-
 slice-aggregate-call : tie.Need-slice-aggregate-call
 slice-aggregate-call c = simp length-take (omega arith)
-
-call-requires : tie.Need-call-requires
-call-requires c κs = search needs
-
-same-length : tie.Need-same-length
-same-length c = search needs
 
 returns : tie.Need-returns
 returns c =
     let called = c .before .before in
     let start = called .before .before .before .before .before in
-    answers (start .args .page .now) (called .call .last .1 .1 .0) (start .args .room) (search needs) (called .call .kept .1 .1 .0) _ _ _ _ (called .call .ensures)
+    answers (start .args .page .now) (called .call .last .1 .1 .0) (start .args .room) (search needs) (called .call .kept .1 .1 .0)
+    _ _ _ _ (called .call .ensures)
 
 pub answer-spec : {M : Type 1} → statement M
 answer-spec =
     tie.close
-    (tie.spec slice-relend-prefix-call slice-aggregate-call call-requires same-length returns)
+    (tie.spec (λ c. search needs) slice-aggregate-call (λ c κs. search needs) (λ c. search needs) returns)

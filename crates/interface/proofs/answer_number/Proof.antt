@@ -1,26 +1,16 @@
--- `interface::answer_number` meets its contract: 0 for a sheet, and a refusal's own number. Assumes nothing.
+-- `answer_number` meets its contract: 0 for a sheet, and a refusal's own number. Assumes nothing.
 use Rattle.rules.specs.Answers.{answerNumber}
 use borrow.Author.Needs.{needs}
 use Rattle.interface.proofs.answer_number.Statement.{statement}
 use Rattle.interface.proofs.answer_number.Tie as tie
 
-enum-told : tie.Need-enum-told
-enum-told c = search needs
-
-enum-known-answer : tie.Need-enum-known-answer
-enum-known-answer c = search needs
-
-refusal-number-requires : tie.Need-refusal-number-requires
-refusal-number-requires c κs = search needs
-
-returns : tie.Need-returns
-unfolding answerNumber
-returns c = search needs
-
-returns-2 : tie.Need-returns-2
-unfolding answerNumber
-returns-2 c = rw (c .before .before .answer .given .1) (c .refusal-number .ensures)
-
 pub answer-number-spec : {M : Type 1} → statement M
+unfolding answerNumber
 answer-number-spec =
-    tie.close (tie.spec enum-told enum-known-answer refusal-number-requires returns returns-2)
+    tie.close
+    (tie.spec
+    (λ c. search needs)
+    (λ c. search needs)
+    (λ c κs. search needs)
+    (λ c. search needs)
+    (λ c. rw (c .before .before .answer .given .1) (c .refusal-number .ensures)))

@@ -1,59 +1,49 @@
--- `interface::pewgull_examine` meets its contract: the request is malformed, or the answer to its data is put on the page.
--- Assumes nothing.
-use mathlib.Core.Path.{_∙_, ap}
-use Rattle.rules.specs.declared.Answer.{Answer}
-use Rattle.interface.specs.Calls.{examinedBy, examined, answered}
-use Rattle.interface.proofs.Outcomes.{examination-malformed, examination-answered}
+-- `pewgull_examine` meets its contract: the request is malformed, or the answer to its data is put on the page. Assumes nothing.
 use borrow.Author.Needs.{needs}
+use mathlib.Core.Path.{_∙_, sym}
+use native.Mathlib.Omega.{arith}
+use Rattle.request.proofs.Lengths.{data-length}
+use Rattle.request.specs.Layout.{candidateWords}
+use Rattle.interface.specs.Calls.{answered, examinedAt, examined}
+use Rattle.interface.proofs.Outcomes.{request-malformed, request-answered}
 use Rattle.interface.proofs.pewgull_examine.Statement.{statement}
 use Rattle.interface.proofs.pewgull_examine.Tie as tie
 
-decode-examination-requires : tie.Need-decode-examination-requires
-decode-examination-requires c κs = search needs
-
-enum-known-fault : tie.Need-enum-known-fault
-enum-known-fault c = search needs
-
-fault-number-requires : tie.Need-fault-number-requires
-fault-number-requires c κs = search needs
-
-enum-known-examination : tie.Need-enum-known-examination
-enum-known-examination c = search needs
-
-examine-requires : tie.Need-examine-requires
-examine-requires c κs = search needs
-
-put-requires : tie.Need-put-requires
-put-requires c κs = search needs
+candidate-requires : tie.Need-candidate-requires
+candidate-requires c κs =
+    let held = c .before .before .before in
+    omega (arith, data-length _ candidateWords _ (sym (held .before .before .decode .ensures) ∙ held .«data» .given .1))
 
 returns : tie.Need-returns
 unfolding examined
 returns c =
-    examination-malformed examinedBy _ _ _ (c .before .before .before .before .decode-examination .ensures) _ _ (c .before .before .fault .given .1)
-    (c .fault-number .ensures)
-
-same-length : tie.Need-same-length
-same-length c = search needs
+    let held = c .before .before in
+    request-malformed _ _ candidateWords _ (held .before .before .decode .ensures) _ _ _ (held .fault .given .1) (c .fault-number .ensures)
 
 returns-2 : tie.Need-returns-2
 unfolding examined
 returns-2 c =
-    let answer = c .before .before .before .before .before in
+    let put = c .before .before in
+    let answer = put .before .before .before in
     let held = answer .before .before .before .before .before in
-    let start = held .before .before .before .before .before in
-    examination-answered examinedBy _ _ _ (held .before .before .decode-examination .ensures) _ _ (held .examination .given .1)
-    (c .before .before .put .ensures ∙ ap (λ (a : Answer). answered a (start .args .page .now)) (answer .examine .ensures .0))
+    let decoded = held .before .before in
+    let page = decoded .before .before .before .args .page .now in
+    request-answered _ _ candidateWords _ (decoded .decode .ensures) _ _ _ (held .«data» .given .1)
+    (put .put .ensures
+    ∙ (λ i. answered (answer .examine .ensures .0 i) page)
+    ∙ (λ i. examinedAt (answer .before .candidate .ensures i) page (held .«data» .given .0 .0)))
 
 pub pewgull-examine-spec : {M : Type 1} → statement M
 pewgull-examine-spec =
     tie.close
     (tie.spec
-    decode-examination-requires
-    enum-known-fault
-    fault-number-requires
-    enum-known-examination
-    examine-requires
-    put-requires
+    (λ c κs. search needs)
+    (λ c. search needs)
+    (λ c κs. search needs)
+    (λ c. search needs)
+    candidate-requires
+    (λ c κs. search needs)
+    (λ c κs. search needs)
     returns
-    same-length
+    (λ c. search needs)
     returns-2)

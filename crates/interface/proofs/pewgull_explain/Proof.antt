@@ -1,58 +1,50 @@
--- `pewgull_explain` meets its contract: the request is malformed, or the explanation of its candidate is put on the page. Assumes nothing.
+-- `pewgull_explain` meets its contract: the request is malformed, or the explanation of its candidate is put on the page.
+-- Assumes nothing.
 use borrow.Author.Needs.{needs}
-use mathlib.Core.Path.{_∙_, ap}
-use Rattle.rules.specs.declared.Explanation.{Explanation}
-use Rattle.interface.specs.Calls.{explainedBy, explained, figured}
-use Rattle.interface.proofs.Outcomes.{examination-malformed, examination-answered}
+use mathlib.Core.Path.{_∙_, sym}
+use native.Mathlib.Omega.{arith}
+use Rattle.request.proofs.Lengths.{data-length}
+use Rattle.request.specs.Layout.{candidateWords}
+use Rattle.interface.specs.Calls.{figured, explainedAt, explained}
+use Rattle.interface.proofs.Outcomes.{request-malformed, request-answered}
 use Rattle.interface.proofs.pewgull_explain.Statement.{statement}
 use Rattle.interface.proofs.pewgull_explain.Tie as tie
 
-decode-examination-requires : tie.Need-decode-examination-requires
-decode-examination-requires c κs = search needs
-
-enum-known-fault : tie.Need-enum-known-fault
-enum-known-fault c = search needs
-
-fault-number-requires : tie.Need-fault-number-requires
-fault-number-requires c κs = search needs
-
-enum-known-examination : tie.Need-enum-known-examination
-enum-known-examination c = search needs
-
-explain-requires : tie.Need-explain-requires
-explain-requires c κs = search needs
-
-put-figures-requires : tie.Need-put-figures-requires
-put-figures-requires c κs = search needs
+candidate-requires : tie.Need-candidate-requires
+candidate-requires c κs =
+    let held = c .before .before .before in
+    omega (arith, data-length _ candidateWords _ (sym (held .before .before .decode .ensures) ∙ held .«data» .given .1))
 
 returns : tie.Need-returns
 unfolding explained
 returns c =
-    examination-malformed explainedBy _ _ _ (c .before .before .before .before .decode-examination .ensures) _ _ (c .before .before .fault .given .1)
-    (c .fault-number .ensures)
-
-same-length : tie.Need-same-length
-same-length c = search needs
+    let held = c .before .before in
+    request-malformed _ _ candidateWords _ (held .before .before .decode .ensures) _ _ _ (held .fault .given .1) (c .fault-number .ensures)
 
 returns-2 : tie.Need-returns-2
 unfolding explained
 returns-2 c =
-    let answer = c .before .before .before .before .before in
+    let put = c .before .before in
+    let answer = put .before .before .before in
     let held = answer .before .before .before .before .before in
-    let start = held .before .before .before .before .before in
-    examination-answered explainedBy _ _ _ (held .before .before .decode-examination .ensures) _ _ (held .examination .given .1)
-    (c .before .before .put-figures .ensures ∙ ap (λ (a : Explanation). figured a (start .args .page .now)) (answer .explain .ensures))
+    let decoded = held .before .before in
+    let page = decoded .before .before .before .args .page .now in
+    request-answered _ _ candidateWords _ (decoded .decode .ensures) _ _ _ (held .«data» .given .1)
+    (put .put-explanation .ensures
+    ∙ (λ i. figured (answer .explain .ensures i) page)
+    ∙ (λ i. explainedAt (answer .before .candidate .ensures i) page (held .«data» .given .0 .0)))
 
 pub pewgull-explain-spec : {M : Type 1} → statement M
 pewgull-explain-spec =
     tie.close
     (tie.spec
-    decode-examination-requires
-    enum-known-fault
-    fault-number-requires
-    enum-known-examination
-    explain-requires
-    put-figures-requires
+    (λ c κs. search needs)
+    (λ c. search needs)
+    (λ c κs. search needs)
+    (λ c. search needs)
+    candidate-requires
+    (λ c κs. search needs)
+    (λ c κs. search needs)
     returns
-    same-length
+    (λ c. search needs)
     returns-2)
