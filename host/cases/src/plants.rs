@@ -5,8 +5,8 @@ use crate::request::*;
 
 /// Case A at its candidate.
 pub fn case_a() -> Request {
-    let mut words = [0; 32];
-    words[VERSION] = 1;
+    let mut words = [0; WORDS];
+    words[VERSION] = NEWEST_VERSION;
     let figures = [
         1_200, 5_000, 600, 12, 20, 100, 10_000, 1_000, 120, 200, 9_000, 1_000, 5_000,
     ];

@@ -1,4 +1,4 @@
-//! A request as 32 words, its bytes, and decoding for the reference.
+//! A request as words, its bytes, and decoding for the reference.
 
 use reference::*;
 
@@ -27,9 +27,16 @@ pub const COD: usize = 21;
 pub const SOLIDS: usize = 23;
 pub const NITROGEN: usize = 25;
 pub const PHOSPHORUS: usize = 27;
-pub const FRACTION: usize = 29;
-pub const RETURN_RATIO: usize = 30;
-pub const THICKENING: usize = 31;
+
+/// Words of the data: version, plant and readings.
+pub const DATA_WORDS: usize = 29;
+/// Words of a candidate, which come after the data.
+pub const CANDIDATE_WORDS: usize = 3;
+pub const FRACTION: usize = DATA_WORDS;
+pub const RETURN_RATIO: usize = DATA_WORDS + 1;
+pub const THICKENING: usize = DATA_WORDS + 2;
+/// Words of the longest request.
+pub const WORDS: usize = DATA_WORDS + CANDIDATE_WORDS;
 
 /// The readings in their order.
 pub const READINGS: [usize; 5] = [BOD, COD, SOLIDS, NITROGEN, PHOSPHORUS];
@@ -71,9 +78,12 @@ pub const KIND_WORDS: [(usize, u32); 10] = [
 ];
 
 /// Bytes of a request to examine or to explain.
-pub const EXAMINE_LENGTH: usize = 128;
+pub const EXAMINE_LENGTH: usize = 4 * WORDS;
 /// Bytes of a request to choose.
-pub const CHOOSE_LENGTH: usize = 116;
+pub const CHOOSE_LENGTH: usize = 4 * DATA_WORDS;
+
+/// The newest version, the only one that is answered.
+pub const NEWEST_VERSION: u32 = 1;
 
 /// Numbers of malformed requests.
 pub const WRONG_LENGTH: u32 = 101;
@@ -81,7 +91,7 @@ pub const WRONG_VERSION: u32 = 102;
 pub const UNKNOWN_KIND: u32 = 103;
 
 #[derive(Clone, Copy, Debug, PartialEq, Eq)]
-pub struct Request(pub [u32; 32]);
+pub struct Request(pub [u32; WORDS]);
 
 impl Request {
     pub fn get(&self, place: usize) -> u32 {
@@ -219,11 +229,11 @@ pub fn decode(bytes: &[u8], length: usize) -> Result<Decoded, u32> {
     if bytes.len() != length {
         return Err(WRONG_LENGTH);
     }
-    let mut words = [0; 32];
+    let mut words = [0; WORDS];
     for (word, four) in words.iter_mut().zip(bytes.chunks_exact(4)) {
         *word = u32::from_le_bytes([four[0], four[1], four[2], four[3]]);
     }
-    if words[VERSION] != 1 {
+    if words[VERSION] != NEWEST_VERSION {
         return Err(WRONG_VERSION);
     }
     Ok(Decoded {

@@ -40,7 +40,10 @@ fn bytes_of_case_a() {
     assert_eq!(bytes.len(), request::EXAMINE_LENGTH);
     assert_eq!(bytes[..8], [1, 0, 0, 0, 0xb0, 0x04, 0, 0]);
     assert_eq!(bytes[76..84], [0, 0, 0, 0, 0, 0, 0x48, 0x43]);
-    assert_eq!(bytes[116..], [0x2c, 1, 0, 0, 75, 0, 0, 0, 20, 0, 0, 0]);
+    assert_eq!(
+        bytes[request::CHOOSE_LENGTH..],
+        [0x2c, 1, 0, 0, 75, 0, 0, 0, 20, 0, 0, 0]
+    );
     assert_eq!(
         plants::case_a().choose_bytes(),
         bytes[..request::CHOOSE_LENGTH]
@@ -50,11 +53,11 @@ fn bytes_of_case_a() {
 #[test]
 fn malformed_requests_in_their_order() {
     let plant = plants::case_a()
-        .with(request::VERSION, 2)
+        .with(request::VERSION, request::NEWEST_VERSION + 1)
         .with(request::REMOVAL, 3);
     let fault = |bytes: &[u8]| request::decode(bytes, request::EXAMINE_LENGTH).err();
     assert_eq!(fault(&plant.choose_bytes()), Some(101));
     assert_eq!(fault(&plant.examine_bytes()), Some(102));
-    let known = plant.with(request::VERSION, 1);
+    let known = plant.with(request::VERSION, request::NEWEST_VERSION);
     assert_eq!(fault(&known.examine_bytes()), Some(103));
 }

@@ -2,12 +2,20 @@
 
 /// Version of the layout.
 pub const VERSION: u32 = 1;
+/// Words of the version, the plant with its site, and its kinds.
+const PLANT_WORDS: usize = 19;
+/// Words of the readings, two each.
+const READING_WORDS: usize = 10;
+/// Words of the data, which every request starts with.
+const DATA_WORDS: usize = PLANT_WORDS + READING_WORDS;
+/// Words of a candidate, which come after the data.
+const CANDIDATE_WORDS: usize = 3;
 /// Bytes of a request to choose.
-pub const CHOOSE_LENGTH: usize = 116;
+pub const CHOOSE_LENGTH: usize = 4 * DATA_WORDS;
 /// Bytes of a request to examine.
-pub const EXAMINE_LENGTH: usize = 128;
+pub const EXAMINE_LENGTH: usize = 4 * (DATA_WORDS + CANDIDATE_WORDS);
 /// Bytes of a request to explain.
-pub const EXPLAIN_LENGTH: usize = 128;
+pub const EXPLAIN_LENGTH: usize = EXAMINE_LENGTH;
 
 #[derive(Clone, Copy, Debug, Default, PartialEq, Eq)]
 pub enum Process {
@@ -135,8 +143,9 @@ impl Request {
     /// The bytes of a request to choose.
     pub fn to_choose(&self) -> [u8; CHOOSE_LENGTH] {
         let mut bytes = [0; CHOOSE_LENGTH];
-        put(&mut bytes[..76], &self.plant_words());
-        put(&mut bytes[76..], &self.reading_words());
+        let (plant, readings) = bytes.split_at_mut(4 * PLANT_WORDS);
+        put(plant, &self.plant_words());
+        put(readings, &self.reading_words());
         bytes
     }
 
@@ -156,8 +165,8 @@ impl Request {
         bytes
     }
 
-    /// Words 0 to 18: version, plant, site and kinds.
-    fn plant_words(&self) -> [u32; 19] {
+    /// Version, plant, site and kinds.
+    fn plant_words(&self) -> [u32; PLANT_WORDS] {
         [
             VERSION,
             self.load,
@@ -181,9 +190,9 @@ impl Request {
         ]
     }
 
-    /// Words 19 to 28: the readings in the paper's order.
-    fn reading_words(&self) -> [u32; 10] {
-        let mut words = [0; 10];
+    /// The readings in the paper's order.
+    fn reading_words(&self) -> [u32; READING_WORDS] {
+        let mut words = [0; READING_WORDS];
         let readings = [
             self.bod,
             self.cod,

@@ -6,7 +6,7 @@ use common::{case_a, CASE_A_CANDIDATE, CASE_A_LISTING};
 use library::number::*;
 use library::sheet::{candidates, GRID, LINES};
 use library::{choose, examine, explain, Candidate, Figures, Request};
-use library::{TankFlow, FIGURES_LENGTH, PAGE_LENGTH};
+use library::{TankFlow, CHOOSE_LENGTH, EXAMINE_LENGTH, FIGURES_LENGTH, PAGE_LENGTH};
 
 const UNTOUCHED: u8 = 0xaa;
 
@@ -66,7 +66,7 @@ fn a_short_page_is_left_alone() {
     let mut page = [UNTOUCHED; 47];
     assert_eq!(examine(&request, &mut page), (SHORT_PAGE, 0));
     assert_eq!(explain(&request, &mut page), (SHORT_PAGE, 0));
-    assert_eq!(choose(&request[..116], &mut page), (SHORT_PAGE, 0));
+    assert_eq!(choose(&request[..CHOOSE_LENGTH], &mut page), (SHORT_PAGE, 0));
     assert_eq!(examine(&request, &mut []), (SHORT_PAGE, 0));
     assert_eq!(page, [UNTOUCHED; 47]);
 }
@@ -75,10 +75,10 @@ fn a_short_page_is_left_alone() {
 fn malformed_requests_have_their_codes() {
     let mut page = [UNTOUCHED; PAGE_LENGTH];
     let good = case_a().to_examine(CASE_A_CANDIDATE);
-    assert_eq!(examine(&good[..127], &mut page), (BAD_LENGTH, 0));
+    assert_eq!(examine(&good[..EXAMINE_LENGTH - 1], &mut page), (BAD_LENGTH, 0));
     assert_eq!(examine(&[], &mut page), (BAD_LENGTH, 0));
     assert_eq!(choose(&good, &mut page), (BAD_LENGTH, 0));
-    assert_eq!(explain(&good[..116], &mut page), (BAD_LENGTH, 0));
+    assert_eq!(explain(&good[..CHOOSE_LENGTH], &mut page), (BAD_LENGTH, 0));
     let mut other_version = good;
     other_version[0] = 2;
     assert_eq!(examine(&other_version, &mut page), (BAD_VERSION, 0));

@@ -5,6 +5,7 @@ mod common;
 use common::{case_a, CASE_A_CANDIDATE};
 use library::{
     Candidate, Precipitant, PrimarySettling, Process, Reading, Removal, Request, TankFlow,
+    CHOOSE_LENGTH, EXAMINE_LENGTH, EXPLAIN_LENGTH,
 };
 
 fn word(bytes: &[u8], place: usize) -> u32 {
@@ -12,13 +13,17 @@ fn word(bytes: &[u8], place: usize) -> u32 {
 }
 
 #[test]
-fn lengths() {
-    let request = case_a();
-    assert_eq!(request.to_choose().len(), 116);
-    assert_eq!(request.to_examine(CASE_A_CANDIDATE).len(), 128);
-    assert_eq!(library::CHOOSE_LENGTH, 116);
-    assert_eq!(library::EXAMINE_LENGTH, 128);
-    assert_eq!(library::EXPLAIN_LENGTH, 128);
+fn lengths_are_those_of_the_header_for_c() {
+    let header = include_str!("../../../include/pewgull.h");
+    let lengths = [
+        ("CHOOSE", CHOOSE_LENGTH),
+        ("EXAMINE", EXAMINE_LENGTH),
+        ("EXPLAIN", EXPLAIN_LENGTH),
+    ];
+    for (call, length) in lengths {
+        let line = format!("#define PEWGULL_{call}_LENGTH {length}\n");
+        assert!(header.contains(&line), "{line}");
+    }
     assert_eq!(library::FIGURES_LENGTH, 48);
 }
 
@@ -31,8 +36,11 @@ fn bytes_of_case_a() {
     assert_eq!(bytes[52..56], [0x88, 0x13, 0, 0], "site depth 5,000");
     assert_eq!(bytes[56..76], [0; 20], "every kind is its first");
     assert_eq!(bytes[76..84], [0, 0, 0, 0, 0, 0, 0x48, 0x43], "BOD 200.0");
-    assert_eq!(bytes[112..116], [0, 0, 0, 0x41], "phosphorus 8.0");
-    assert_eq!(bytes[116..128], [0x2c, 1, 0, 0, 75, 0, 0, 0, 20, 0, 0, 0]);
+    assert_eq!(word(&bytes, 28), 0x4100_0000, "phosphorus 8.0");
+    assert_eq!(
+        bytes[CHOOSE_LENGTH..],
+        [0x2c, 1, 0, 0, 75, 0, 0, 0, 20, 0, 0, 0]
+    );
 }
 
 #[test]
@@ -40,7 +48,7 @@ fn a_request_to_choose_is_the_start_of_one_to_examine() {
     let request = case_a();
     assert_eq!(
         request.to_choose()[..],
-        request.to_examine(CASE_A_CANDIDATE)[..116]
+        request.to_examine(CASE_A_CANDIDATE)[..CHOOSE_LENGTH]
     );
 }
 
@@ -68,12 +76,13 @@ fn each_field_has_its_word() {
         phosphorus: Reading::Heads(28),
         ..Request::default()
     };
+    let own = CHOOSE_LENGTH / 4;
     let bytes = request.to_examine(Candidate {
-        fraction: 29,
-        return_ratio: 30,
-        thickening: 31,
+        fraction: own as u32,
+        return_ratio: own as u32 + 1,
+        thickening: own as u32 + 2,
     });
-    for place in (1..=13).chain([20, 22, 24, 26, 28, 29, 30, 31]) {
+    for place in (1..=13).chain([20, 22, 24, 26, 28, own, own + 1, own + 2]) {
         assert_eq!(word(&bytes, place), place as u32, "word {place}");
     }
 }
