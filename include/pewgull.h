@@ -99,7 +99,7 @@ extern "C" {
 #define PEWGULL_PAGE_LENGTH 512
 
 /* Bytes that pewgull_explain writes, and the least length of its page. */
-#define PEWGULL_FIGURES_LENGTH 48
+#define PEWGULL_FIGURES_LENGTH 56
 
 /* Numbers that the calls give. */
 #define PEWGULL_SHEET 0          /* a sheet, or explaining figures */
@@ -142,7 +142,7 @@ uint32_t pewgull_choose(const uint8_t *request, size_t request_length,
 /*
  * Gives the figures that the candidate of a request of
  * PEWGULL_EXPLAIN_LENGTH bytes is judged by, whatever refusals 7 to 10 say
- * of it. Gives 0 and writes PEWGULL_FIGURES_LENGTH bytes, six 64-bit
+ * of it. Gives 0 and writes PEWGULL_FIGURES_LENGTH bytes, seven 64-bit
  * unsigned numbers, little-endian:
  *
  *   bytes    what                                   held to
@@ -152,9 +152,11 @@ uint32_t pewgull_choose(const uint8_t *request, size_t request_length,
  *   24..31   diluted sludge volume, l/m3            at most 600 (8)
  *   32..39   settling surface, m2                   at most the site's (9)
  *   40..47   settling depth, mm                     at most the site's (10)
+ *   48..55   the verdict: 0 where all of these are kept, else the number of
+ *            the first of 7 to 10 that is broken
  *
- * Gives 1 to 4 or 6 and writes 48 bytes of zeros. Gives 11 for a page of
- * fewer than 48 bytes, or 101 to 103, and writes nothing.
+ * Gives 1 to 4 or 6 and writes 56 bytes of zeros. Gives 11 for a page of
+ * fewer than 56 bytes, or 101 to 103, and writes nothing.
  */
 uint32_t pewgull_explain(const uint8_t *request, size_t request_length,
                          uint8_t *page, size_t page_length,

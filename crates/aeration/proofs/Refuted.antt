@@ -1,10 +1,10 @@
 -- Wrong programs that document 01 names, refuted on concrete data: what they compute is not what the steps define.
 -- Assumes nothing.
 use mathlib.Core.Path.{_≡_}
-use Prim.Native.Nat.{ℕ, _+_, _*_}
+use Prim.Native.Nat.{_*_}
 use borrow.Author.Tests.{eqb-false}
 use mathlib.Core.Path.{refl}
-use Rattle.rules.specs.Rounding.{down, up}
+use Rattle.rules.specs.Rounding.{up}
 use Rattle.rules.specs.AgeNitrate.{capacityUptake}
 use Rattle.rules.specs.AerationSteps.{aerationUptake, savedOxygen}
 

@@ -5,17 +5,16 @@ use rules::Plant;
 use rules::Process;
 use rules::Reactor;
 ghost use mathlib.Core.Path.{_≡_};
-ghost use Prim.Native.Nat.{_-_, _*_, _≤_, max};
-ghost use lib.Dec.{T};
+ghost use Prim.Native.Nat.{_-_, _*_, _≤_};
 ghost use Rattle.rules.specs.Rounding.{up};
-ghost use Rattle.rules.specs.AgeNitrate.{covered};
+ghost use Rattle.rules.specs.Limits.{mostNitrogen};
 ghost use Rattle.rules.specs.AerationSteps.{aerationUptake, carbonOxygen, nitrificationOxygen, savedOxygen, hourlyOxygen, oxygenTransfer, recirculation, aerationOf};
 ghost use Rattle.rules.specs.Ranges.{Between, PlantRanges, ConcentrationRanges, ReactorBounds};
 
 // Specific oxygen uptake for aeration, g/kg.
 fn aeration_uptake(corrected: u64) -> u64
     requires { ⌜ corrected ≤ 28_400 ⌝ }
-    ensures { λ r. ⌜ (r ≡ aerationUptake corrected) × Between 560 1_443 r ⌝ }
+    ensures { λ r. ⌜ (r ≡ aerationUptake corrected) × (r ≤ 1_443) ⌝ }
 {
     560 + rounding::round_up(15000 * corrected, 100000 + 17 * corrected)
 }
@@ -30,7 +29,7 @@ fn carbon_oxygen(flow: u64, bod: u64, uptake: u64) -> u64
 
 // Oxygen for nitrification, g/d.
 fn nitrification_oxygen(flow: u64, nitrified: u64) -> u64
-    requires { ⌜ (flow ≤ 200_000) × (nitrified ≤ 500_000) ⌝ }
+    requires { ⌜ (flow ≤ 200_000) × (nitrified ≤ mostNitrogen) ⌝ }
     ensures { λ r. ⌜ (r ≡ nitrificationOxygen flow nitrified) × (r ≤ 430_000_000) ⌝ }
 {
     rounding::round_up(43 * flow * nitrified, 10_000)
@@ -38,17 +37,10 @@ fn nitrification_oxygen(flow: u64, nitrified: u64) -> u64
 
 // Oxygen saved by denitrification, g/d.
 fn saved_oxygen(flow: u64, denitrified: u64) -> u64
-    requires { ⌜ (flow ≤ 200_000) × (denitrified ≤ 500_000) ⌝ }
+    requires { ⌜ (flow ≤ 200_000) × (denitrified ≤ mostNitrogen) ⌝ }
     ensures { λ r. ⌜ r ≡ savedOxygen flow denitrified ⌝ }
 {
     29 * flow * denitrified / 10_000
-}
-
-// The larger of two amounts.
-fn larger(a: u64, b: u64) -> u64
-    ensures { λ r. ⌜ r ≡ max a b ⌝ }
-{
-    if a < b { b } else { a }
 }
 
 // Hourly oxygen, g/h: the larger of the carbon peak and the nitrogen peak.
@@ -56,7 +48,7 @@ fn hourly_oxygen(net: u64, nitrification: u64, carbon_peak: u64, nitrogen_peak: 
     requires { ⌜ (net ≤ 577_200_000) × (nitrification ≤ 430_000_000) × («carbon_peak» ≤ 300) × («nitrogen_peak» ≤ 300) ⌝ }
     ensures { λ r. ⌜ (r ≡ hourlyOxygen net nitrification «carbon_peak» «nitrogen_peak») × (r ≤ 126_000_000) ⌝ }
 {
-    larger(
+    rounding::larger(
         rounding::round_up(carbon_peak * net + 100 * nitrification, 2400),
         rounding::round_up(100 * net + nitrogen_peak * nitrification, 2400),
     )
@@ -72,16 +64,15 @@ fn oxygen_transfer(saturation: u64, hourly: u64) -> u64
 
 // What a pre-anoxic reactor returns beyond its own flow, thousandths.
 fn returned_flow(nitrified: u64, target: u64) -> u64
-    requires { ⌜ (nitrified ≤ 500_000) × Between 1_000 50_000 target ⌝ }
+    requires { ⌜ (nitrified ≤ mostNitrogen) × Between 1_000 50_000 target ⌝ }
     ensures { λ r. ⌜ r ≡ up (1000 * nitrified) target - 1000 ⌝ }
 {
-    let whole = rounding::round_up(1000 * nitrified, target);
-    if whole < 1000 { 0 } else { whole - 1000 }
+    rounding::less(rounding::round_up(1000 * nitrified, target), 1000)
 }
 
 // Recirculation, thousandths: pre-anoxic only.
 fn recirculated(process: Process, nitrified: u64, target: u64) -> u64
-    requires { ⌜ (nitrified ≤ 500_000) × Between 1_000 50_000 target ⌝ }
+    requires { ⌜ (nitrified ≤ mostNitrogen) × Between 1_000 50_000 target ⌝ }
     ensures { λ r. ⌜ r ≡ recirculation process nitrified target ⌝ }
 {
     match process {
@@ -92,17 +83,18 @@ fn recirculated(process: Process, nitrified: u64, target: u64) -> u64
     }
 }
 
-// Carbon's oxygen less what denitrification saves, g/d. Where the nitrate is covered it is no less than nothing.
-fn net_carbon(flow: u64, bod: u64, uptake: u64, capacity: u64, denitrified: u64) -> u64
-    requires { ⌜ (flow ≤ 200_000) × (bod ≤ 2_000_000) × Between 560 1_443 uptake × (capacity ≤ 193) × (denitrified ≤ 500_000) × T (covered capacity bod denitrified) ⌝ }
+// Carbon's oxygen less what denitrification saves, g/d, held at 0. Where the nitrate is covered nothing is cut off.
+fn net_carbon(flow: u64, bod: u64, uptake: u64, denitrified: u64) -> u64
+    requires { ⌜ (flow ≤ 200_000) × (bod ≤ 2_000_000) × (uptake ≤ 1_443) × (denitrified ≤ mostNitrogen) ⌝ }
     ensures { λ r. ⌜ (r ≡ carbonOxygen flow bod uptake - savedOxygen flow denitrified) × (r ≤ 577_200_000) ⌝ }
 {
-    carbon_oxygen(flow, bod, uptake) - saved_oxygen(flow, denitrified)
+    let carbon = carbon_oxygen(flow, bod, uptake);
+    rounding::less(carbon, saved_oxygen(flow, denitrified))
 }
 
-// Recirculation, hourly oxygen and transfer of a reactor whose nitrate is covered.
+// Recirculation, hourly oxygen and transfer of a reactor.
 pub fn aeration(plant: Plant, concentrations: Concentrations, reactor: Reactor) -> Aeration
-    requires { ⌜ PlantRanges plant × ConcentrationRanges concentrations × ReactorBounds reactor × T (covered (reactor .capacity) (concentrations .bod) (reactor .denitrified)) ⌝ }
+    requires { ⌜ PlantRanges plant × ConcentrationRanges concentrations × ReactorBounds reactor ⌝ }
     ensures { λ r. ⌜ r ≡ aerationOf plant concentrations reactor ⌝ }
 {
     let flow = plant.flow as u64;
@@ -115,7 +107,7 @@ pub fn aeration(plant: Plant, concentrations: Concentrations, reactor: Reactor) 
     let bod = concentrations.bod;
     let nitrified = reactor.nitrified;
     let uptake = aeration_uptake(reactor::corrected_age(reactor.age, temperature));
-    let net = net_carbon(flow, bod, uptake, reactor.capacity, reactor.denitrified);
+    let net = net_carbon(flow, bod, uptake, reactor.denitrified);
     let nitrification = nitrification_oxygen(flow, nitrified);
     let oxygen = hourly_oxygen(net, nitrification, carbon_peak, nitrogen_peak);
     let transfer = oxygen_transfer(saturation, oxygen);

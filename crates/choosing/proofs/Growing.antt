@@ -3,18 +3,20 @@
 use mathlib.Core.Path.{_≡_, refl, ap, _∙_, subst}
 use mathlib.Core.Logic.{_⊎_, inl, inr}
 use mathlib.Core.Bool.{Bool, true, false}
-use Prim.Native.Nat.{ℕ, _+_, _*_, _≤_, _<_, min}
+use Prim.Native.Nat.{ℕ, _+_, _≤_, _<_, min}
 use native.Mathlib.Nat.{le-refl, le-trans, le-of-lt, eq-or-lt-of-le, min-eq-left, min-eq-right}
 use native.Mathlib.Omega.{arith}
 use lib.Dec.{T, leb}
 use borrow.Author.Tests.{leb-true, leb-false}
+use Rattle.rules.specs.Limits.{leastFraction}
+use Rattle.rules.specs.AgeNitrate.{onGrid}
 use Rattle.rules.specs.Ranges.{OnGrid}
-use Rattle.rules.specs.Examining.{permitted, keepsGrid}
+use Rattle.rules.specs.Examining.{permitted}
 use Rattle.rules.specs.Choosing.{Candidates}
 use Rattle.rules.specs.declared.Plant.{Plant}
 use Rattle.rules.specs.declared.Concentrations.{Concentrations}
 use Rattle.rules.specs.declared.Candidate.{Candidate}
-use Rattle.choosing.specs.Keys.{noneYet, place, placeOf, candidateKey, Visited, LeastKey}
+use Rattle.choosing.specs.Keys.{noneYet, firstPlace, placeOf, candidateKey, Visited, LeastKey}
 use Rattle.choosing.proofs.KeyOrder.{on-grid}
 
 -- two candidates of the grid with the same place are one
@@ -32,14 +34,14 @@ same-place y z g k e = λ i. record { fraction = fraction i; «return_ratio» = 
 
 module _ (p : Plant) (x : Concentrations) where
   -- nothing has been visited
-  pub start : LeastKey p x (Visited p (place 200 30 20)) noneYet
+  pub start : LeastKey p x (Visited p (firstPlace leastFraction)) noneYet
   start =
       record {
         below = λ y v t. absurd (nobody y (on-grid p y (v .onGrid)) (v .before));
         held = inl refl;
       }
     where
-      nobody : (y : Candidate) → OnGrid y → placeOf y < place 200 30 20 → ⊥
+      nobody : (y : Candidate) → OnGrid y → placeOf y < firstPlace leastFraction → ⊥
       nobody y g b = omega arith
 
   -- a permitted member of a set whose key is at most y's
@@ -69,7 +71,7 @@ module _ (p : Plant) (x : Concentrations) where
   pub gap :
       (n m best : ℕ)
       → n ≤ m
-      → ((y : Candidate) → T (keepsGrid p y) → placeOf y < m → placeOf y < n)
+      → ((y : Candidate) → T (onGrid (p .tank) y) → placeOf y < m → placeOf y < n)
       → LeastKey p x (Visited p n) best
       → LeastKey p x (Visited p m) best
   gap n m best h nobody =
@@ -81,7 +83,7 @@ module _ (p : Plant) (x : Concentrations) where
       further y b = omega arith
 
   -- one more candidate, at the place n
-  module _ (y : Candidate) (grid : T (keepsGrid p y)) (n : ℕ) (at : placeOf y ≡ n) (best : ℕ) (l : LeastKey p x (Visited p n) best) where
+  module _ (y : Candidate) (grid : T (onGrid (p .tank) y)) (n : ℕ) (at : placeOf y ≡ n) (best : ℕ) (l : LeastKey p x (Visited p n) best) where
     -- a visited candidate was visited before, or is y
     old-or-new : (z : Candidate) → Visited p (n + 1) z → Visited p n z ⊎ (z ≡ y)
     old-or-new z v = go (eq-or-lt-of-le le)

@@ -1,21 +1,20 @@
 -- The key is the order of choosing: it gives its candidate back, and a candidate with no larger key does not come after.
 -- Both are arithmetic from the grid's ranges. Assumes nothing.
 use mathlib.Core.Path.{_≡_}
-use Prim.Native.Nat.{ℕ, _+_, _*_, _/_, _%_, _≤_, _<_}
+use Prim.Native.Nat.{ℕ, _/_, _%_, _≤_}
 use native.Mathlib.Omega.{arith}
 use lib.Dec.{T}
+use Rattle.rules.specs.AgeNitrate.{onGrid}
 use Rattle.rules.specs.Ranges.{OnGrid}
-use Rattle.rules.specs.Examining.{keepsGrid}
 use Rattle.rules.specs.Choosing.{candidateTotal, NotBefore}
 use Rattle.rules.specs.declared.Plant.{Plant}
 use Rattle.rules.specs.declared.Concentrations.{Concentrations}
 use Rattle.rules.specs.declared.Candidate.{Candidate}
 use Rattle.rules.proofs.RangeFacts
-use Rattle.choosing.specs.Keys.{keyOf, placeOf, candidateKey, keyCandidate}
+use Rattle.choosing.specs.Keys.{keyOf, candidateKey, keyCandidate}
 
 -- a candidate of a plant's grid
-pub on-grid : (p : Plant) (y : Candidate) → T (keepsGrid p y) → OnGrid y
-unfolding keepsGrid
+pub on-grid : (p : Plant) (y : Candidate) → T (onGrid (p .tank) y) → OnGrid y
 on-grid p y t = RangeFacts.on-grid (p .tank) y t
 
 -- a key names its candidate

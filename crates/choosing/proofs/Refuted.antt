@@ -49,10 +49,10 @@ sheet-of-zeros h = h .allowed
 
 -- a flow so small that many designs have the same total
 unfoldable pub smallPlant : Plant
-smallPlant = variant 50 10_000 5_000 Process.PreAnoxic TankFlow.Horizontal Removal.Scraper
+smallPlant = variant 50 10_000 1_000 5_000 Process.PreAnoxic TankFlow.Horizontal Removal.Scraper
 
 unfoldable pub verticalPlant : Plant
-verticalPlant = variant 5_000 10_000 10_000 Process.PreAnoxic TankFlow.Vertical Removal.Suction
+verticalPlant = variant 5_000 10_000 1_000 10_000 Process.PreAnoxic TankFlow.Vertical Removal.Suction
 
 -- Equal totals to the larger fraction: 300, 30, 23 has the same total as 301, 30, 23.
 pub ties-to-larger-fraction : Chosen smallPlant readingsA (examine smallPlant readingsA (candidate 301 30 23)) → ⊥
@@ -63,6 +63,15 @@ ties-to-larger-fraction h = le→leb 301 300 (h .rivals (candidate 300 30 23) tt
 pub ties-by-time-first : Chosen smallPlant readingsA (examine smallPlant readingsA (candidate 300 32 20)) → ⊥
 unfolding steps smallPlant
 ties-by-time-first h = le→leb 32 30 (h .rivals (candidate 300 30 23) tt tt .ratio refl refl)
+
+-- a flow so small that the sludge mass is the same for many thickening times
+unfoldable pub tinyPlant : Plant
+tinyPlant = variant 1 10_000 1_000 5_000 Process.PreAnoxic TankFlow.Horizontal Removal.Scraper
+
+-- Equal totals, fractions and return ratios to the longer thickening time: 300, 30, 20 against 300, 30, 21.
+pub ties-to-longer-time : Chosen tinyPlant readingsA (examine tinyPlant readingsA (candidate 300 30 21)) → ⊥
+unfolding steps tinyPlant
+ties-to-longer-time h = le→leb 21 20 (h .rivals (candidate 300 30 20) tt tt .time refl refl refl)
 
 -- Return ratios above 75 left out in vertical flow: 300, 75, 25 is the best of the others, 300, 93, 25 is smaller.
 pub vertical-held-to-75 : Chosen verticalPlant readingsA (examine verticalPlant readingsA (candidate 300 75 25)) → ⊥

@@ -8,7 +8,8 @@ use native.Mathlib.Nat.{eq-or-lt-of-le}
 use native.Mathlib.Omega.{arith}
 use lib.ListN.{length, getD, set, length-set}
 use lib.Seq.{getD-set-same, getD-set-other}
-use Rattle.rules.specs.Ranges.{Between}
+use Rattle.rules.specs.Limits.{leastRatio, leastTime, mostTime}
+use Rattle.rules.specs.Ranges.{Between, GridRatio, GridTime}
 use Rattle.rules.specs.declared.Plant.{Plant}
 use Rattle.choosing.specs.Keys.{tankOf, tankIndex, Filled}
 use Rattle.choosing.specs.declared.Tank.{Tank}
@@ -23,20 +24,20 @@ turn r h = h * 128 + r
 -- the tanks whose turn is below n are in the table
 pub record FilledTo (p : Plant) (last n : ℕ) (table : List Tank) : Type 0 where
   pub size : length table ≡ 426
-  pub holds : (r h : ℕ) → Between 30 last r → Between 20 25 h → turn r h < n → getD table (tankIndex r h) noTank ≡ tankOf p r h
+  pub holds : (r h : ℕ) → Between leastRatio last r → GridTime h → turn r h < n → getD table (tankIndex r h) noTank ≡ tankOf p r h
 
-module _ (p : Plant) (last : ℕ) (lasts : Between 30 100 last) where
-  pub empty : (table : List Tank) → length table ≡ 426 → FilledTo p last (turn 30 20) table
+module _ (p : Plant) (last : ℕ) (lasts : GridRatio last) where
+  pub empty : (table : List Tank) → length table ≡ 426 → FilledTo p last (turn leastRatio leastTime) table
   empty table e = record { size = e; holds = λ r h br bh t. absurd (nobody r h br bh t) }
     where
-      nobody : (r h : ℕ) → Between 30 last r → Between 20 25 h → turn r h < turn 30 20 → ⊥
+      nobody : (r h : ℕ) → Between leastRatio last r → GridTime h → turn r h < turn leastRatio leastTime → ⊥
       nobody r h br bh t = omega arith
 
   -- one more tank
   pub entered :
       (r h : ℕ) (table : List Tank) (tank : Tank)
-      → Between 30 last r
-      → Between 20 25 h
+      → Between leastRatio last r
+      → GridTime h
       → tank ≡ tankOf p r h
       → FilledTo p last (turn r h) table
       → FilledTo p last (turn (r + 1) h) (set table (tankIndex r h) tank)
@@ -48,8 +49,8 @@ module _ (p : Plant) (last : ℕ) (lasts : Between 30 100 last) where
 
       go :
           (s g : ℕ)
-          → Between 30 last s
-          → Between 20 25 g
+          → Between leastRatio last s
+          → GridTime g
           → (turn s g ≡ turn r h) ⊎ (turn s g < turn r h)
           → getD (set table (tankIndex r h) tank) (tankIndex s g) noTank ≡ tankOf p s g
       go s g bs bg (inl same) =
@@ -64,14 +65,14 @@ module _ (p : Plant) (last : ℕ) (lasts : Between 30 100 last) where
           getD-set-other table (tankIndex r h) (tankIndex s g) tank noTank apart ∙ l .holds s g bs bg less
 
   -- the last return ratio is done: the next thickening time begins
-  pub next-time : (h : ℕ) (table : List Tank) → FilledTo p last (turn (last + 1) h) table → FilledTo p last (turn 30 (h + 1)) table
+  pub next-time : (h : ℕ) (table : List Tank) → FilledTo p last (turn (last + 1) h) table → FilledTo p last (turn leastRatio (h + 1)) table
   next-time h table l = record { size = l .size; holds = λ s g bs bg t. l .holds s g bs bg (sooner s g bs bg t) }
     where
-      sooner : (s g : ℕ) → Between 30 last s → Between 20 25 g → turn s g < turn 30 (h + 1) → turn s g < turn (last + 1) h
+      sooner : (s g : ℕ) → Between leastRatio last s → GridTime g → turn s g < turn leastRatio (h + 1) → turn s g < turn (last + 1) h
       sooner s g bs bg t = omega arith
 
-  pub full : (table : List Tank) → FilledTo p last (turn 30 26) table → Filled p last table
+  pub full : (table : List Tank) → FilledTo p last (turn leastRatio (mostTime + 1)) table → Filled p last table
   full table l = record { size = l .size; holds = λ s g bs bg. l .holds s g bs bg (inside s g bs bg) }
     where
-      inside : (s g : ℕ) → Between 30 last s → Between 20 25 g → turn s g < turn 30 26
+      inside : (s g : ℕ) → Between leastRatio last s → GridTime g → turn s g < turn leastRatio (mostTime + 1)
       inside s g bs bg = omega arith

@@ -1,32 +1,35 @@
 -- The turns of the three loops, over plain values: what each adds to the visited candidates, and the limits that its
 -- arithmetic needs. Assumes nothing.
-use mathlib.Core.Path.{_≡_, sym, subst}
-use mathlib.Core.Logic.{_⊎_, inl, inr}
-use mathlib.Core.Bool.{Bool, true, false, cond}
+use mathlib.Core.Path.{_≡_, subst}
+use mathlib.Core.Logic.{inl, inr}
 use Prim.Native.Nat.{ℕ, _+_, _≤_, _<_}
 use native.Mathlib.Omega.{arith}
 use lib.Dec.{T}
-use Rattle.rules.specs.AgeNitrate.{largestReturnRatio}
-use Rattle.rules.specs.SludgeTanks.{reactorOf, settlingOf, reactorSolids}
-use Rattle.rules.specs.Ranges.{Between, PlantRanges, ConcentrationRanges, OnGrid}
-use Rattle.rules.specs.Examining.{keepsGrid}
+use Rattle.rules.specs.Rules.{verdict}
+use Rattle.rules.specs.Limits.{leastRatio, mostRatio, leastTime, mostTime, mostMass, mostSolids, mostReactorSolids, mostSettlingVolume}
+use Rattle.rules.specs.AgeNitrate.{largestReturnRatio, onGrid}
+use Rattle.rules.specs.Examining.{tankRules}
+use Rattle.rules.specs.ReactorSteps.{reactorOf, reactorSolids}
+use Rattle.rules.specs.SettlingSteps.{settlingOf}
+use Rattle.rules.specs.Ranges.{Between, GridFraction, GridRatio, GridTime, PlantRanges, ConcentrationRanges, OnGrid}
 use Rattle.rules.specs.declared.Plant.{Plant}
 use Rattle.rules.specs.declared.Process.{Process}
 use Rattle.rules.specs.declared.Steps.{Steps}
 use Rattle.rules.specs.declared.Concentrations.{Concentrations}
 use Rattle.rules.specs.declared.Candidate.{Candidate}
+use Rattle.rules.specs.declared.Verdict.{Verdict}
 use Rattle.rules.proofs.RangeFacts.{grid-ranges}
 use Rattle.reactor.proofs.Bounds.{reactor-bounds}
 use Rattle.settling.proofs.Bounds.{settling-bounds}
-use Rattle.choosing.specs.Keys.{noneYet, place, placeOf, coveredMass, tankKeeps, tankOf, improvedKey, Visited, LeastKey, Lightest}
+use Rattle.choosing.specs.Keys.{noneYet, place, firstPlace, placeOf, keptMass, tankBy, tankOf, improvedKey, Visited, LeastKey, Lightest}
 use Rattle.choosing.specs.declared.Tank.{Tank}
 use Rattle.choosing.proofs.KeyOrder.{on-grid}
 use Rattle.choosing.proofs.Growing.{gap}
-use Rattle.choosing.proofs.Stepping.{candidate, mass-covered, improved, left-out}
+use Rattle.choosing.proofs.Stepping.{candidate, mass-kept, improved, left-out}
 use Rattle.choosing.proofs.Choice.{Limits}
 
 -- E' of a tank of the grid has a limit
-solids-most : (process : Process) (e : ℕ) → e ≤ 14_000 → reactorSolids process e ≤ 16_800
+solids-most : (process : Process) (e : ℕ) → e ≤ mostSolids → reactorSolids process e ≤ mostReactorSolids
 unfolding reactorSolids
 solids-most Process.PreAnoxic e h = omega arith
 solids-most Process.Simultaneous e h = omega arith
@@ -35,8 +38,8 @@ solids-most (Process.StepFeed Steps.Two) e h = omega arith
 solids-most (Process.StepFeed Steps.Three) e h = omega arith
 
 pub record TankMost (t : Tank) : Type 0 where
-  pub solids : t .solids ≤ 16_800
-  pub volume : t .volume ≤ 1_400_000
+  pub solids : t .solids ≤ mostReactorSolids
+  pub volume : t .volume ≤ mostSettlingVolume
 
 -- a fraction once passed stays passed
 pub later-fraction : (p : Plant) (x : Concentrations) (f l : ℕ) → Lightest p x f l → Lightest p x (f + 1) l
@@ -48,53 +51,48 @@ module _ (p : Plant) (x : Concentrations) (pr : PlantRanges p) (xr : Concentrati
   limits =
       record {
         mass = λ e b. reactor-bounds p x e pr xr b .mass;
-        volume = λ r h br bh. settling-bounds p r h pr br bh .capacity .most;
+        volume = λ r h br bh. settling-bounds p r h pr br bh .volume .most;
       }
 
-  small : (e : ℕ) → Between 200 500 e → reactorOf p x e .mass < noneYet
+  small : (e : ℕ) → GridFraction e → reactorOf p x e .mass < noneYet
   small e b = omega (arith, limits .mass e b)
 
   -- a covered mass has its limit
-  pub mass-most : (f m : ℕ) → Between 200 500 f → coveredMass p x f ≡ m → m < noneYet → m ≤ 14_000_000
-  mass-most f m b e h = omega (arith, mass-covered p x f m e h .1, limits .mass f b)
+  pub mass-most : (f m : ℕ) → GridFraction f → keptMass p x f ≡ m → m < noneYet → m ≤ mostMass
+  mass-most f m b e h = omega (arith, mass-kept p x f m e h .1, limits .mass f b)
 
   -- an entry of the table has its limits
-  pub tank-most : (r h : ℕ) → Between 30 100 r → Between 20 25 h → TankMost (tankOf p r h)
+  pub tank-most : (r h : ℕ) → GridRatio r → GridTime h → TankMost (tankOf p r h)
   unfolding tankOf
-  tank-most r h br bh = go (tankKeeps p r h)
+  tank-most r h br bh = go (verdict (tankRules p (settlingOf p r h)))
     where
-      kept : Tank
-      kept = record { solids = reactorSolids (p .process) (settlingOf p r h .solids); volume = settlingOf p r h .volume }
-
-      go : (b : Bool) → TankMost (cond b kept (record { solids = 0; volume = 0 }))
-      go true =
+      go : (v : Verdict) → TankMost (tankBy v (record { solids = reactorSolids (p .process) (settlingOf p r h .solids); volume = settlingOf p r h .volume }))
+      go Verdict.Kept =
           record {
             solids = solids-most (p .process) (settlingOf p r h .solids) (settling-bounds p r h pr br bh .solids .most);
-            volume = settling-bounds p r h pr br bh .capacity .most;
+            volume = settling-bounds p r h pr br bh .volume .most;
           }
-      go false = record { solids = omega arith; volume = omega arith }
+      go (Verdict.Broken n) = record { solids = omega arith; volume = omega arith }
 
   -- a fraction left out
   pub fraction-left :
-      (f l m best : ℕ) → coveredMass p x f ≡ m → l ≤ m → Lightest p x f l
-      → LeastKey p x (Visited p (place f 30 20)) best
-      → LeastKey p x (Visited p (place (f + 1) 30 20)) best
+      (f l m best : ℕ) → keptMass p x f ≡ m → l ≤ m → Lightest p x f l
+      → LeastKey p x (Visited p (firstPlace f)) best
+      → LeastKey p x (Visited p (firstPlace (f + 1))) best
   fraction-left f l m best e over light = left-out p x f l best small light (omega arith)
 
-  module _ (last : ℕ) (is-last : last ≡ largestReturnRatio (p .tank)) (lasts : Between 75 100 last) (f : ℕ) (bf : Between 200 500 f) where
-    in-grid : (r h : ℕ) → Between 30 last r → Between 20 25 h → T (keepsGrid p (candidate f r h))
-    unfolding keepsGrid
+  module _ (last : ℕ) (is-last : last ≡ largestReturnRatio (p .tank)) (lasts : Between 75 mostRatio last) (f : ℕ) (bf : GridFraction f) where
+    in-grid : (r h : ℕ) → Between leastRatio last r → GridTime h → T (onGrid (p .tank) (candidate f r h))
     in-grid r h br bh =
         grid-ranges (p .tank) (candidate f r h) .1
         (record { fraction = bf; ratio = record { least = br .least; most = omega (arith, br) }; time = bh })
 
-    ratio-at-most : (y : Candidate) → T (keepsGrid p y) → y .«return_ratio» ≤ last
-    unfolding keepsGrid
+    ratio-at-most : (y : Candidate) → T (onGrid (p .tank) y) → y .«return_ratio» ≤ last
     ratio-at-most y t = omega (arith, grid-ranges (p .tank) y .0 t .ratio)
 
     -- one candidate
     pub candidate-turn :
-        (r h m best : ℕ) → Between 30 last r → Between 20 25 h → coveredMass p x f ≡ m → m < noneYet
+        (r h m best : ℕ) → Between leastRatio last r → GridTime h → keptMass p x f ≡ m → m < noneYet
         → LeastKey p x (Visited p (place f r h)) best
         → LeastKey p x (Visited p (place f r (h + 1))) (improvedKey best m (tankOf p r h) f r h)
     candidate-turn r h m best br bh e below l =
@@ -103,15 +101,15 @@ module _ (p : Plant) (x : Concentrations) (pr : PlantRanges p) (xr : Concentrati
         (improved p x f r h m best (in-grid r h br bh) e below l)
 
     -- the last thickening time of a return ratio is done
-    pub ratio-done : (r best : ℕ) → LeastKey p x (Visited p (place f r 26)) best → LeastKey p x (Visited p (place f (r + 1) 20)) best
-    ratio-done r best = gap p x (place f r 26) (place f (r + 1) 20) best (omega arith) (λ y t. nobody y (on-grid p y t))
+    pub ratio-done : (r best : ℕ) → LeastKey p x (Visited p (place f r (mostTime + 1))) best → LeastKey p x (Visited p (place f (r + 1) leastTime)) best
+    ratio-done r best = gap p x (place f r (mostTime + 1)) (place f (r + 1) leastTime) best (omega arith) (λ y t. nobody y (on-grid p y t))
       where
-        nobody : (y : Candidate) → OnGrid y → placeOf y < place f (r + 1) 20 → placeOf y < place f r 26
+        nobody : (y : Candidate) → OnGrid y → placeOf y < place f (r + 1) leastTime → placeOf y < place f r (mostTime + 1)
         nobody y g b = omega arith
 
     -- the last return ratio of a fraction is done
-    pub fraction-done : (best : ℕ) → LeastKey p x (Visited p (place f (last + 1) 20)) best → LeastKey p x (Visited p (place (f + 1) 30 20)) best
-    fraction-done best = gap p x (place f (last + 1) 20) (place (f + 1) 30 20) best (omega arith) (λ y t. nobody y (on-grid p y t) (ratio-at-most y t))
+    pub fraction-done : (best : ℕ) → LeastKey p x (Visited p (place f (last + 1) leastTime)) best → LeastKey p x (Visited p (firstPlace (f + 1))) best
+    fraction-done best = gap p x (place f (last + 1) leastTime) (firstPlace (f + 1)) best (omega arith) (λ y t. nobody y (on-grid p y t) (ratio-at-most y t))
       where
-        nobody : (y : Candidate) → OnGrid y → y .«return_ratio» ≤ last → placeOf y < place (f + 1) 30 20 → placeOf y < place f (last + 1) 20
+        nobody : (y : Candidate) → OnGrid y → y .«return_ratio» ≤ last → placeOf y < firstPlace (f + 1) → placeOf y < place f (last + 1) leastTime
         nobody y g r b = omega arith

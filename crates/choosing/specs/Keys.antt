@@ -3,18 +3,22 @@
 use Prim.Native.Nat.{ℕ, _+_, _-_, _*_, _/_, _%_, _≤_, _<_, min}
 use mathlib.Core.Logic.{_⊎_}
 use mathlib.Core.Path.{_≡_}
-use mathlib.Core.Bool.{Bool, cond, _&&_}
+use mathlib.Core.Bool.{cond}
 use mathlib.Core.List.{List}
-use lib.Dec.{T, leb, eqb}
+use lib.Dec.{T, eqb}
 use lib.ListN.{length, getD}
-use Rattle.rules.specs.AgeNitrate.{covered}
-use Rattle.rules.specs.SludgeTanks.{reactorOf, settlingOf, solidsKept, reactorSolids, reactorVolume}
-use Rattle.rules.specs.Ranges.{Between}
-use Rattle.rules.specs.Examining.{permitted, keepsGrid}
+use Rattle.rules.specs.Rules.{verdict}
+use Rattle.rules.specs.Limits.{leastFraction, leastRatio, leastTime}
+use Rattle.rules.specs.AgeNitrate.{onGrid}
+use Rattle.rules.specs.ReactorSteps.{reactorOf, reactorSolids, reactorVolume}
+use Rattle.rules.specs.SettlingSteps.{settlingOf}
+use Rattle.rules.specs.Ranges.{Between, GridTime}
+use Rattle.rules.specs.Examining.{fractionRules, tankRules, permitted}
 use Rattle.rules.specs.Choosing.{Candidates, candidateTotal}
 use Rattle.rules.specs.declared.Plant.{Plant}
 use Rattle.rules.specs.declared.Concentrations.{Concentrations}
 use Rattle.rules.specs.declared.Candidate.{Candidate}
+use Rattle.rules.specs.declared.Verdict.{Verdict}
 use Rattle.choosing.specs.declared.Tank.{Tank}
 
 -- above every key and every mass: no design yet, or a fraction that is not covered
@@ -24,6 +28,10 @@ noneYet = 18_446_744_073_709_551_615
 -- a candidate's place in the sweep: by fraction, then return ratio, then thickening time
 abbrev pub place : ℕ → ℕ → ℕ → ℕ
 place f r h = f * 4_096 + r * 32 + h
+
+-- the first place of a fraction
+abbrev pub firstPlace : ℕ → ℕ
+firstPlace f = place f leastRatio leastTime
 
 abbrev pub placeOf : Candidate → ℕ
 placeOf y = place (y .fraction) (y .«return_ratio») (y .thickening)
@@ -40,32 +48,32 @@ unfoldable pub keyCandidate : ℕ → Candidate
 keyCandidate k =
     record { fraction = k % 2_097_152 / 4_096; «return_ratio» = k % 4_096 / 32; thickening = k % 32 }
 
--- the sludge mass at a fraction, or `noneYet` where the nitrate is not covered
-unfoldable pub coveredMass : Plant → Concentrations → ℕ → ℕ
-coveredMass p x f =
-    cond (covered (reactorOf p x f .capacity) (x .bod) (reactorOf p x f .denitrified)) (reactorOf p x f .mass) noneYet
+-- the sludge mass at a fraction, or `noneYet` where it breaks a rule of the fraction
+abbrev pub massBy : Verdict → ℕ → ℕ
+massBy Verdict.Kept mass = mass
+massBy (Verdict.Broken n) mass = noneYet
 
--- a settling tank keeps the rules 8 to 10
-unfoldable pub tankKeeps : Plant → ℕ → ℕ → Bool
-tankKeeps p r h =
-    let s = settlingOf p r h in
-    solidsKept (s .solids) (s .«sludge_volume») && leb (s .surface) (p .«site_surface») && leb (s .depth) (p .«site_depth»)
+unfoldable pub keptMass : Plant → Concentrations → ℕ → ℕ
+keptMass p x f = massBy (verdict (fractionRules (reactorOf p x f))) (reactorOf p x f .mass)
 
--- the table's entry: the tank's E' and volume, or zeros where it breaks a rule of 8 to 10
+-- the table's entry: the tank's E' and volume, or zeros where it breaks a rule of the tank
+abbrev pub tankBy : Verdict → Tank → Tank
+tankBy Verdict.Kept tank = tank
+tankBy (Verdict.Broken n) tank = record { solids = 0; volume = 0 }
+
 unfoldable pub tankOf : Plant → ℕ → ℕ → Tank
 tankOf p r h =
-    cond (tankKeeps p r h)
+    tankBy (verdict (tankRules p (settlingOf p r h)))
     (record { solids = reactorSolids (p .process) (settlingOf p r h .solids); volume = settlingOf p r h .volume })
-    (record { solids = 0; volume = 0 })
 
 -- the place of a return ratio and a thickening time in the table
 abbrev pub tankIndex : ℕ → ℕ → ℕ
-tankIndex r h = (r - 30) * 6 + (h - 20)
+tankIndex r h = (r - leastRatio) * 6 + (h - leastTime)
 
 -- the table holds every tank with a return ratio up to the last
 pub record Filled (p : Plant) (last : ℕ) (table : List Tank) : Type 0 where
   pub size : length table ≡ 426
-  pub holds : (r h : ℕ) → Between 30 last r → Between 20 25 h → getD table (tankIndex r h) (record { solids = 0; volume = 0 }) ≡ tankOf p r h
+  pub holds : (r h : ℕ) → Between leastRatio last r → GridTime h → getD table (tankIndex r h) (record { solids = 0; volume = 0 }) ≡ tankOf p r h
 
 -- the lesser of a key and the key of one more candidate, which counts only where its tank keeps the rules
 unfoldable pub improvedKey : ℕ → ℕ → Tank → ℕ → ℕ → ℕ → ℕ
@@ -74,7 +82,7 @@ improvedKey best mass tank f r h =
 
 -- the candidates of the grid whose place is below n
 pub record Visited (p : Plant) (n : ℕ) (y : Candidate) : Type 0 where
-  pub onGrid : T (keepsGrid p y)
+  pub onGrid : T (onGrid (p .tank) y)
   pub before : placeOf y < n
 
 -- A number is the least key among a set of candidates: no permitted one has a smaller key, and it is the key of a
@@ -85,4 +93,4 @@ pub record LeastKey (p : Plant) (x : Concentrations) (among : Candidates) (best 
 
 -- A mass is that of a covered fraction below f, or `noneYet`.
 abbrev pub Lightest : Plant → Concentrations → ℕ → ℕ → Type 0
-Lightest p x f mass = (mass ≡ noneYet) ⊎ ((e : ℕ) × (200 ≤ e) × (e < f) × (coveredMass p x e ≡ mass))
+Lightest p x f mass = (mass ≡ noneYet) ⊎ ((e : ℕ) × (leastFraction ≤ e) × (e < f) × (keptMass p x e ≡ mass))

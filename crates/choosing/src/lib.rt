@@ -7,13 +7,15 @@ use rules::Concentrations;
 use rules::Plant;
 use rules::Readings;
 use rules::Refusal;
+use rules::Verdict;
 ghost use mathlib.Core.Path.{_≡_};
 ghost use Prim.Native.Nat.{_≤_, _<_};
-ghost use Rattle.rules.specs.SludgeTanks.{thickeningRoot, bottomSludge};
-ghost use Rattle.rules.specs.Ranges.{Between, PlantRanges, ConcentrationRanges};
+ghost use Rattle.rules.specs.SettlingSteps.{thickeningRoot, bottomSludge};
+ghost use Rattle.rules.specs.Limits.{mostFraction, mostRatio, mostTime, mostMass, mostReactorSolids, mostSettlingVolume};
+ghost use Rattle.rules.specs.Ranges.{GridFraction, GridRatio, GridTime, PlantRanges, ConcentrationRanges};
 ghost use Rattle.rules.specs.Choosing.{grid, ChosenAmong, Chosen};
 ghost use Rattle.rules.specs.TwoColumns.{TwoColumns};
-ghost use Rattle.choosing.specs.Keys.{noneYet, keyCandidate, coveredMass, tankOf, tankIndex, improvedKey, LeastKey, Filled};
+ghost use Rattle.choosing.specs.Keys.{noneYet, keyCandidate, keptMass, tankOf, tankIndex, improvedKey, LeastKey, Filled};
 
 // What the sweep's table holds of one settling tank.
 pub struct Tank {
@@ -26,56 +28,49 @@ pub struct Tank {
 // Above every key and every mass: no design yet, or a fraction that is not covered.
 const NONE_YET: u64 = 18_446_744_073_709_551_615;
 
-// The sludge mass at a fraction, or NONE_YET where the nitrate is not covered.
-fn covered_mass(plant: Plant, concentrations: Concentrations, fraction: u32) -> u64
-    requires { ⌜ PlantRanges plant × ConcentrationRanges concentrations × Between 200 500 fraction ⌝ }
-    ensures { λ r. ⌜ r ≡ coveredMass plant concentrations fraction ⌝ }
+// The sludge mass at a fraction, or NONE_YET where it breaks a rule of the fraction.
+fn kept_mass(plant: Plant, concentrations: Concentrations, fraction: u32) -> u64
+    requires { ⌜ PlantRanges plant × ConcentrationRanges concentrations × GridFraction fraction ⌝ }
+    ensures { λ r. ⌜ r ≡ keptMass plant concentrations fraction ⌝ }
 {
     let reactor = reactor::reactor(plant, concentrations, fraction);
-    if reactor::covers(reactor.capacity, concentrations.bod, reactor.denitrified) {
-        reactor.mass
-    } else {
-        NONE_YET
+    match reactor::fraction_verdict(reactor) {
+        Verdict::Kept => reactor.mass,
+        Verdict::Broken(_) => NONE_YET,
     }
 }
 
 // A settling tank's entry in the table, from the bottom sludge of its thickening time.
 fn tank_entry(plant: Plant, return_ratio: u32, thickening: u32, bottom: u64) -> Tank
-    requires { ⌜ PlantRanges plant × Between 30 100 «return_ratio» × Between 20 25 thickening ⌝ }
+    requires { ⌜ PlantRanges plant × GridRatio «return_ratio» × GridTime thickening ⌝ }
     requires { ⌜ bottom ≡ bottomSludge (thickeningRoot thickening) (plant .«sludge_volume_index») ⌝ }
     ensures { λ r. ⌜ r ≡ tankOf plant «return_ratio» thickening ⌝ }
 {
     let process = plant.process;
-    let surface = plant.site_surface as u64;
-    let depth = plant.site_depth as u64;
     let settling = settling::settling(plant, return_ratio, thickening, bottom);
-    if settling::solids_kept(settling.solids, settling.sludge_volume)
-        & (settling.surface <= surface)
-        & (settling.depth <= depth)
-    {
-        Tank {
-            solids: settling::reactor_solids(process, settling.solids),
+    match settling::tank_verdict(plant, settling) {
+        Verdict::Kept => Tank {
+            solids: reactor::reactor_solids(process, settling.solids),
             volume: settling.volume,
-        }
-    } else {
-        Tank {
+        },
+        Verdict::Broken(_) => Tank {
             solids: 0,
             volume: 0,
-        }
+        },
     }
 }
 
 // The place of a return ratio and a thickening time in the table.
 fn tank_index(return_ratio: u32, thickening: u32) -> usize
-    requires { ⌜ Between 30 100 «return_ratio» × Between 20 25 thickening ⌝ }
+    requires { ⌜ GridRatio «return_ratio» × GridTime thickening ⌝ }
     ensures { λ r. ⌜ (r ≡ tankIndex «return_ratio» thickening) × (r < 426) ⌝ }
 {
-    ((return_ratio - 30) * 6 + (thickening - 20)) as usize
+    ((return_ratio - rules::LEAST_RATIO) * 6 + (thickening - rules::LEAST_TIME)) as usize
 }
 
 // The table of the settling tanks with return ratios up to the last, filled once.
 fn tanks(plant: Plant, last: u32) -> [Tank; 426]
-    requires { ⌜ PlantRanges plant × Between 30 100 last ⌝ }
+    requires { ⌜ PlantRanges plant × GridRatio last ⌝ }
     ensures { λ r. ⌜ Filled plant last r ⌝ }
 {
     let index = plant.sludge_volume_index;
@@ -83,9 +78,9 @@ fn tanks(plant: Plant, last: u32) -> [Tank; 426]
         solids: 0,
         volume: 0,
     }; 426];
-    'time: for h in 20..=25 {
+    'time: for h in rules::LEAST_TIME..=rules::MOST_TIME {
         let bottom = settling::bottom_sludge(index, h);
-        'ratio: for r in 30..=last {
+        'ratio: for r in rules::LEAST_RATIO..=last {
             table[tank_index(r, h)] = tank_entry(plant, r, h, bottom);
         }
     }
@@ -94,13 +89,13 @@ fn tanks(plant: Plant, last: u32) -> [Tank; 426]
 
 // The lesser of a key and the key of one more candidate, which counts only where its tank keeps the rules.
 fn improved(best: u64, mass: u64, tank: Tank, f: u32, r: u32, h: u32) -> u64
-    requires { ⌜ (mass ≤ 14_000_000) × (tank .solids ≤ 16_800) × (tank .volume ≤ 1_400_000) × (f ≤ 500) × (r ≤ 100) × (h ≤ 25) ⌝ }
+    requires { ⌜ (mass ≤ mostMass) × (tank .solids ≤ mostReactorSolids) × (tank .volume ≤ mostSettlingVolume) × (f ≤ mostFraction) × (r ≤ mostRatio) × (h ≤ mostTime) ⌝ }
     ensures { λ k. ⌜ k ≡ improvedKey best mass tank f r h ⌝ }
 {
     if tank.solids == 0 {
         return best;
     }
-    let total = settling::reactor_volume(mass, tank.solids) + tank.volume;
+    let total = reactor::reactor_volume(mass, tank.solids) + tank.volume;
     let key = total * 2_097_152 + (f as u64 * 4_096 + r as u64 * 32 + h as u64);
     if best <= key { best } else { key }
 }
@@ -116,14 +111,14 @@ fn sweep(plant: Plant, concentrations: Concentrations) -> u64
     let table = tanks(plant, last);
     let mut best = NONE_YET;
     let mut lightest = NONE_YET;
-    'fraction: for f in 200..=500 {
-        let mass = covered_mass(plant, concentrations, f);
+    'fraction: for f in rules::LEAST_FRACTION..=rules::MOST_FRACTION {
+        let mass = kept_mass(plant, concentrations, f);
         if lightest <= mass {
             continue 'fraction;
         }
         lightest = mass;
-        'ratio: for r in 30..=last {
-            'time: for h in 20..=25 {
+        'ratio: for r in rules::LEAST_RATIO..=last {
+            'time: for h in rules::LEAST_TIME..=rules::MOST_TIME {
                 let i = tank_index(r, h);
                 let tank = table[i];
                 best = improved(best, mass, tank, f, r, h);
@@ -162,7 +157,7 @@ pub fn choose(plant: Plant, readings: Readings) -> Answer
     ensures { λ r. ⌜ Chosen plant readings r ⌝ }
     ensures columns { λ r. ⌜ TwoColumns plant readings r ⌝ }
 {
-    match readings::accept(plant, readings) {
+    match accepting::accept(plant, readings) {
         Acceptance::Refused(refusal) => Answer::Refused(refusal),
         Acceptance::Accepted(concentrations) => choose_accepted(plant, concentrations),
     }

@@ -11,6 +11,7 @@ pub refuted : Refuted
 unfolding steps WrongExaminers.withProcess
 refuted =
     record {
+      depth-before-surface = (refl, eqb-false _ _ refl);
       always-7 = λ e. eqb-false 7 0 refl (ap Answers.answerNumber (e Cases.caseA Cases.readingsA (Cases.candidate 300 75 20)));
       always-case-A = λ e. eqb-false 0 7 refl (ap Answers.answerNumber (e Cases.caseA Cases.readingsA (Cases.candidate 299 75 20)));
       case-A-for-candidates = (refl, eqb-false _ _ refl);

@@ -1,12 +1,13 @@
 -- Each exit of examining, over plain values: what the tests on the way there make of the definition. Assumes nothing.
-use mathlib.Core.Path.{_≡_, ap}
+use mathlib.Core.Path.{_≡_, ap, sym, _∙_}
 use mathlib.Core.Bool.{true, false}
-use Prim.Native.Nat.{_≤_, _<_}
-use borrow.Author.Tests.{le-leb, lt-leb}
-use Rattle.rules.specs.AgeNitrate.{onGrid, covered}
-use Rattle.rules.specs.SludgeTanks.{reactorOf, settlingOf, solidsKept}
+use mathlib.Core.List.{_++_}
+use Rattle.rules.specs.Rules.{verdict}
+use Rattle.rules.specs.AgeNitrate.{onGrid}
+use Rattle.rules.specs.ReactorSteps.{reactorOf}
+use Rattle.rules.specs.SettlingSteps.{settlingOf}
 use Rattle.rules.specs.AerationSteps.{aerationOf}
-use Rattle.rules.specs.Examining.{keepsGrid, keepsNitrate, keepsSolids, keepsSurface, keepsDepth, judge, sheetOf, sheetFrom}
+use Rattle.rules.specs.Examining.{fractionRules, tankRules, candidateRules, answerBy, judge, sheetOf, sheetFrom}
 use Rattle.rules.specs.declared.Plant.{Plant}
 use Rattle.rules.specs.declared.Concentrations.{Concentrations}
 use Rattle.rules.specs.declared.Candidate.{Candidate}
@@ -15,54 +16,24 @@ use Rattle.rules.specs.declared.Settling.{Settling}
 use Rattle.rules.specs.declared.Aeration.{Aeration}
 use Rattle.rules.specs.declared.Sheet.{Sheet}
 use Rattle.rules.specs.declared.Refusal.{Refusal}
+use Rattle.rules.specs.declared.Verdict.{Verdict}
 use Rattle.rules.specs.declared.Answer.{Answer}
-use Rattle.examining.specs.Stages.{judgeTank}
 
 module _ (p : Plant) (x : Concentrations) (y : Candidate) where
   pub off-grid : onGrid (p .tank) y ≡ false → Answer.Refused Refusal.OffGrid ≡ judge p x y
-  unfolding judge keepsGrid
+  unfolding judge candidateRules answerBy
   off-grid e = rw e
 
-  pub not-covered :
-      (r : Reactor)
-      → r ≡ reactorOf p x (y .fraction)
-      → onGrid (p .tank) y ≡ true
-      → covered (r .capacity) (x .bod) (r .denitrified) ≡ false
-      → Answer.Refused Refusal.Nitrate ≡ judge p x y
-  unfolding judge keepsGrid keepsNitrate
-  not-covered r e grid cover = rw (grid, ← e, cover)
+  module _ (grid : onGrid (p .tank) y ≡ true) (r : Reactor) (s : Settling) (v : Verdict) (er : r ≡ reactorOf p x (y .fraction)) (es : s ≡ settlingOf p (y .«return_ratio») (y .thickening)) (ev : v ≡ verdict (fractionRules r ++ tankRules p s)) where
+    -- on the grid the verdict on 7 to 10 decides
+    decided : judge p x y ≡ answerBy v (sheetOf p x y)
+    unfolding judge candidateRules
+    decided = rw (grid, ← er, ← es) (ap (λ (w : Verdict). answerBy w (sheetOf p x y)) (sym ev))
 
-  pub to-the-tank :
-      (r : Reactor)
-      → r ≡ reactorOf p x (y .fraction)
-      → onGrid (p .tank) y ≡ true
-      → covered (r .capacity) (x .bod) (r .denitrified) ≡ true
-      → judgeTank p x y ≡ judge p x y
-  unfolding judge judgeTank keepsGrid keepsNitrate
-  to-the-tank r e grid cover = rw (grid, ← e, cover)
+    pub broken : (n : Refusal) → v ≡ Verdict.Broken n → Answer.Refused n ≡ judge p x y
+    unfolding answerBy
+    broken n e = sym (decided ∙ rw e)
 
-  module _ (s : Settling) (e : s ≡ settlingOf p (y .«return_ratio») (y .thickening)) where
-    pub solids-broken : solidsKept (s .solids) (s .«sludge_volume») ≡ false → Answer.Refused Refusal.Solids ≡ judgeTank p x y
-    unfolding judgeTank keepsSolids
-    solids-broken kept = rw (← e, kept)
-
-    module _ (kept : solidsKept (s .solids) (s .«sludge_volume») ≡ true) where
-      pub surface-broken : p .«site_surface» < s .surface → Answer.Refused Refusal.Surface ≡ judgeTank p x y
-      unfolding judgeTank keepsSolids keepsSurface
-      surface-broken h = rw (← e, kept, lt-leb (s .surface) (p .«site_surface») h)
-
-      pub depth-broken : s .surface ≤ p .«site_surface» → p .«site_depth» < s .depth → Answer.Refused Refusal.Depth ≡ judgeTank p x y
-      unfolding judgeTank keepsSolids keepsSurface keepsDepth
-      depth-broken a h = rw (← e, kept, le-leb (s .surface) (p .«site_surface») a, lt-leb (s .depth) (p .«site_depth») h)
-
-      pub all-kept :
-          (r : Reactor) (a : Aeration) (t : Sheet)
-          → r ≡ reactorOf p x (y .fraction)
-          → a ≡ aerationOf p x r
-          → t ≡ sheetFrom p y r s a
-          → s .surface ≤ p .«site_surface»
-          → s .depth ≤ p .«site_depth»
-          → Answer.Designed t ≡ judgeTank p x y
-      unfolding judgeTank keepsSolids keepsSurface keepsDepth sheetOf
-      all-kept r a t er ea et hs hd =
-          rw (← er, ← ea, ← e, kept, le-leb (s .surface) (p .«site_surface») hs, le-leb (s .depth) (p .«site_depth») hd) (ap Answer.Designed et)
+    pub kept : v ≡ Verdict.Kept → (a : Aeration) (t : Sheet) → a ≡ aerationOf p x r → t ≡ sheetFrom p y r s a → Answer.Designed t ≡ judge p x y
+    unfolding answerBy sheetOf
+    kept e a t ea et = sym (decided ∙ rw (e, ← er, ← es) (ap Answer.Designed (sym (et ∙ ap (sheetFrom p y r s) ea))))

@@ -3,12 +3,16 @@
 use Prim.Native.Nat.{ℕ, _+_, _-_, _*_, max}
 use mathlib.Core.Path.{_≡_}
 use mathlib.Core.Bool.{cond}
+use mathlib.Core.List.{[], _∷_}
+use lib.Dec.{leb}
 use Rattle.rules.specs.Rounding.{down, up}
 use Rattle.rules.specs.AgeNitrate.{capacityUptake, correctedAge, covered}
-use Rattle.rules.specs.SludgeTanks.{reactorOf, reactorVolume}
+use Rattle.rules.specs.ReactorSteps.{reactorOf, reactorVolume}
 use Rattle.rules.specs.AerationSteps.{aerationUptake, carbonOxygen, savedOxygen, nitrificationOxygen, hourlyOxygen}
 use Rattle.rules.specs.Examining.{examine}
-use Rattle.rules.specs.Answers.{answerNumber, answerSheet}
+use Rattle.rules.specs.Rules.{rule, verdict}
+use Rattle.rules.specs.SettlingSteps.{settlingOf, solidsKept}
+use Rattle.rules.specs.Answers.{answerNumber, answerSheet, verdictNumber}
 use Rattle.rules.specs.Cases.{variant, caseA, readingsA, concentrationsA, candidate}
 use Rattle.rules.specs.declared.Plant.{Plant}
 use Rattle.rules.specs.declared.Process.{Process}
@@ -38,7 +42,7 @@ sheetAt p f r h = answerSheet (answerAt p f r h)
 
 -- Case A's plant with another process and nitrate target
 unfoldable pub withProcess : Process → ℕ → Plant
-withProcess process target = variant 5_000 target 5_000 process TankFlow.Horizontal Removal.Scraper
+withProcess process target = variant 5_000 target 1_000 5_000 process TankFlow.Horizontal Removal.Scraper
 
 abbrev simultaneous : Plant
 simultaneous = withProcess Process.Simultaneous 9_000
@@ -47,7 +51,7 @@ simultaneous = withProcess Process.Simultaneous 9_000
 abbrev numberBy : (ℕ → ℕ) → ℕ → ℕ
 numberBy uptake f =
     let reactor = reactorOf simultaneous concentrationsA f in
-    cond (covered (down (75 * f * uptake (correctedAge (reactor .age) 12)) 290_000) 200_000 (reactor .denitrified)) 0 7
+    cond (covered (down (75 * f * uptake (correctedAge (reactor .age) 12)) 290_000 * 200_000) (reactor .denitrified)) 0 7
 
 -- its hourly oxygen, by a rounding of o for the aeration
 abbrev oxygenBy : (ℕ → ℕ) → ℕ → ℕ
@@ -66,7 +70,23 @@ depthBy loading =
     3_000
     (500 + up (5 * 1_600 * 150) (1000 - 294) + up (9 * loading * 150) 1000 + up (2_937 * 1_600 * 150 * 20) (1000 * 12_590))
 
+-- a site that is too small and too shallow for Case A's settling tank, and the verdict with 10 asked before 9
+abbrev smallSite : Plant
+smallSite = variant 5_000 10_000 400 4_000 Process.PreAnoxic TankFlow.Horizontal Removal.Scraper
+
+abbrev depthFirst : ℕ
+depthFirst =
+    let settling = settlingOf smallSite 75 20 in
+    verdictNumber
+    (verdict
+    (rule Refusal.Solids (solidsKept (settling .solids) (settling .«sludge_volume»))
+    ∷ rule Refusal.Depth (leb (settling .depth) (smallSite .«site_depth»))
+    ∷ rule Refusal.Surface (leb (settling .surface) (smallSite .«site_surface»))
+    ∷ []))
+
 pub record Refuted : Type 0 where
+  -- it asks for the depth before the surface: a candidate that breaks both gets 10 instead of 9
+  pub depth-before-surface : Differ (answerNumber (answerAt smallSite 300 75 20)) 9 depthFirst
   -- it answers 7 to everything: Case A gets a sheet
   pub always-7 : Wrong (λ p r y. Answer.Refused Refusal.Nitrate)
   -- it answers Case A's sheet to everything: the fraction 299 is refused
@@ -75,7 +95,7 @@ pub record Refuted : Type 0 where
   pub case-A-for-candidates : Differ (sheetAt caseA 300 50 20 .depth) 3_956 (sheetAt caseA 300 75 20 .depth)
   -- it does so for every plant that gets a sheet: suction has other solids
   pub case-A-for-plants :
-      Differ (sheetAt (variant 5_000 10_000 5_000 Process.PreAnoxic TankFlow.Horizontal Removal.Suction) 300 75 20 .solids) 2_697 (sheetAt caseA 300 75 20 .solids)
+      Differ (sheetAt (variant 5_000 10_000 1_000 5_000 Process.PreAnoxic TankFlow.Horizontal Removal.Suction) 300 75 20 .solids) 2_697 (sheetAt caseA 300 75 20 .solids)
   -- it rounds o up for the capacity, as for the aeration: it gives a sheet where 7 is due
   pub uptake-up : Differ (answerNumber (answerAt simultaneous 452 75 20)) (numberBy capacityUptake 452) (numberBy aerationUptake 452)
   -- it rounds o down for the aeration, as for the capacity: its sheet has too little oxygen

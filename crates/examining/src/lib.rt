@@ -11,20 +11,30 @@ use rules::Refusal;
 use rules::Settling;
 use rules::Sheet;
 use rules::TankFlow;
+use rules::Verdict;
 ghost use mathlib.Core.Path.{_≡_};
 ghost use Rattle.rules.specs.AgeNitrate.{largestReturnRatio, onGrid};
-ghost use Rattle.rules.specs.Ranges.{Between, PlantRanges, ConcentrationRanges, ReactorBounds, SettlingBounds};
+ghost use Rattle.rules.specs.Limits.{mostRatio};
+ghost use Rattle.rules.specs.Ranges.{Between, OnGrid, PlantRanges, ConcentrationRanges, ReactorBounds, SettlingBounds};
 ghost use Rattle.rules.specs.Examining.{sheetFrom, judge, examine};
-ghost use Rattle.examining.specs.Stages.{judgeTank, Covered};
+ghost use Rattle.examining.specs.Stages.{StagesOf};
 ghost use Rattle.rules.specs.TwoColumns.{TwoColumns};
+
+// What a candidate on the grid is judged by.
+pub struct Stages {
+    pub reactor: Reactor,
+    pub settling: Settling,
+    // the first of the rules 7 to 10 that is broken, or none
+    pub verdict: Verdict,
+}
 
 // The largest return ratio of the grid.
 pub fn largest_return_ratio(tank: TankFlow) -> u32
-    ensures { λ r. ⌜ (r ≡ largestReturnRatio tank) × Between 75 100 r ⌝ }
+    ensures { λ r. ⌜ (r ≡ largestReturnRatio tank) × Between 75 mostRatio r ⌝ }
 {
     match tank {
         TankFlow::Horizontal => 75,
-        TankFlow::Vertical => 100,
+        TankFlow::Vertical => rules::MOST_RATIO,
     }
 }
 
@@ -33,9 +43,33 @@ pub fn on_grid(tank: TankFlow, candidate: Candidate) -> bool
     ensures { λ r. ⌜ r ≡ onGrid tank candidate ⌝ }
 {
     let most = largest_return_ratio(tank);
-    readings::within(200, 500, candidate.fraction)
-        & readings::within(30, most, candidate.return_ratio)
-        & readings::within(20, 25, candidate.thickening)
+    rounding::within(
+        rules::LEAST_FRACTION,
+        rules::MOST_FRACTION,
+        candidate.fraction,
+    )
+        & rounding::within(rules::LEAST_RATIO, most, candidate.return_ratio)
+        & rounding::within(rules::LEAST_TIME, rules::MOST_TIME, candidate.thickening)
+}
+
+// The reactor and the settling tank of a candidate on the grid, and the verdict on its rules 7 to 10.
+pub fn stages_of(plant: Plant, concentrations: Concentrations, candidate: Candidate) -> Stages
+    requires { ⌜ PlantRanges plant × ConcentrationRanges concentrations × OnGrid candidate ⌝ }
+    ensures { λ r. ⌜ StagesOf plant concentrations candidate r ⌝ }
+{
+    let ratio = candidate.return_ratio;
+    let time = candidate.thickening;
+    let reactor = reactor::reactor(plant, concentrations, candidate.fraction);
+    let bottom = settling::bottom_sludge(plant.sludge_volume_index, time);
+    let settling = settling::settling(plant, ratio, time, bottom);
+    let fraction = reactor::fraction_verdict(reactor);
+    let tank = settling::tank_verdict(plant, settling);
+    let verdict = verdicts::after(fraction, tank);
+    Stages {
+        reactor,
+        settling,
+        verdict,
+    }
 }
 
 // The sheet that a candidate's stages make.
@@ -50,8 +84,8 @@ fn sheet_from(
     ensures { λ r. ⌜ r ≡ sheetFrom plant candidate reactor settling aeration ⌝ }
 {
     let process = plant.process;
-    let solids = settling::reactor_solids(process, settling.solids);
-    let volume = settling::reactor_volume(reactor.mass, solids);
+    let solids = reactor::reactor_solids(process, settling.solids);
+    let volume = reactor::reactor_volume(reactor.mass, solids);
     Sheet {
         fraction: candidate.fraction as u64,
         return_ratio: candidate.return_ratio as u64,
@@ -71,36 +105,7 @@ fn sheet_from(
     }
 }
 
-// A candidate that keeps the grid and the cover: 8 to 10 in order, else its sheet.
-fn judge_tank(
-    plant: Plant,
-    concentrations: Concentrations,
-    candidate: Candidate,
-    reactor: Reactor,
-) -> Answer
-    requires { ⌜ Covered plant concentrations candidate reactor ⌝ }
-    ensures { λ r. ⌜ r ≡ judgeTank plant concentrations candidate ⌝ }
-{
-    let ratio = candidate.return_ratio;
-    let time = candidate.thickening;
-    let surface = plant.site_surface as u64;
-    let depth = plant.site_depth as u64;
-    let bottom = settling::bottom_sludge(plant.sludge_volume_index, time);
-    let settling = settling::settling(plant, ratio, time, bottom);
-    if !settling::solids_kept(settling.solids, settling.sludge_volume) {
-        return Answer::Refused(Refusal::Solids);
-    }
-    if surface < settling.surface {
-        return Answer::Refused(Refusal::Surface);
-    }
-    if depth < settling.depth {
-        return Answer::Refused(Refusal::Depth);
-    }
-    let aeration = aeration::aeration(plant, concentrations, reactor);
-    Answer::Designed(sheet_from(plant, candidate, reactor, settling, aeration))
-}
-
-// A candidate of accepted data: 6 to 10 in order, else its sheet.
+// A candidate of accepted data: the refusal of the first rule of 6 to 10 that it breaks, else its sheet.
 pub fn judge(plant: Plant, concentrations: Concentrations, candidate: Candidate) -> Answer
     requires { ⌜ PlantRanges plant × ConcentrationRanges concentrations ⌝ }
     ensures { λ r. ⌜ r ≡ judge plant concentrations candidate ⌝ }
@@ -109,11 +114,16 @@ pub fn judge(plant: Plant, concentrations: Concentrations, candidate: Candidate)
     if !on_grid(tank, candidate) {
         return Answer::Refused(Refusal::OffGrid);
     }
-    let reactor = reactor::reactor(plant, concentrations, candidate.fraction);
-    if reactor::covers(reactor.capacity, concentrations.bod, reactor.denitrified) {
-        judge_tank(plant, concentrations, candidate, reactor)
-    } else {
-        Answer::Refused(Refusal::Nitrate)
+    let stages = stages_of(plant, concentrations, candidate);
+    let reactor = stages.reactor;
+    let settling = stages.settling;
+    let verdict = stages.verdict;
+    match verdict {
+        Verdict::Broken(refusal) => Answer::Refused(refusal),
+        Verdict::Kept => {
+            let aeration = aeration::aeration(plant, concentrations, reactor);
+            Answer::Designed(sheet_from(plant, candidate, reactor, settling, aeration))
+        }
     }
 }
 
@@ -122,7 +132,7 @@ pub fn examine(plant: Plant, readings: Readings, candidate: Candidate) -> Answer
     ensures { λ r. ⌜ r ≡ examine plant readings candidate ⌝ }
     ensures columns { λ r. ⌜ TwoColumns plant readings r ⌝ }
 {
-    match readings::accept(plant, readings) {
+    match accepting::accept(plant, readings) {
         Acceptance::Refused(refusal) => Answer::Refused(refusal),
         Acceptance::Accepted(concentrations) => judge(plant, concentrations, candidate),
     }

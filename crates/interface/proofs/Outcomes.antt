@@ -21,21 +21,6 @@ use Rattle.listing.specs.Pages.{Writes}
 use Rattle.listing.proofs.Outcomes.{writing-fits, page-fits, writing-long, page-long}
 use Rattle.interface.specs.Calls.{Outcome, outcome, numberOf, putOn, answered, malformed, onData, ChoosingData}
 
--- a refusal's number is small
-pub refusal-most : (n : Refusal) → refusalNumber n ≤ 255
-unfolding refusalNumber
-refusal-most Refusal.PlantData = omega arith
-refusal-most Refusal.NoNumber = omega arith
-refusal-most Refusal.ReadingRange = omega arith
-refusal-most Refusal.CodRatio = omega arith
-refusal-most Refusal.NoDesign = omega arith
-refusal-most Refusal.OffGrid = omega arith
-refusal-most Refusal.Nitrate = omega arith
-refusal-most Refusal.Solids = omega arith
-refusal-most Refusal.Surface = omega arith
-refusal-most Refusal.Depth = omega arith
-refusal-most Refusal.ShortPage = omega arith
-
 module _ (answer : Answer) (page after : List ℕ) (w : Written) (done : Writes answer page after w) where
   -- the listing is on the page
   pub listed :

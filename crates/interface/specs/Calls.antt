@@ -1,8 +1,8 @@
 -- What a call of the interface gives back, whole, for every byte string and every page. Assumes nothing.
 use Prim.Native.Nat.{ℕ}
 use mathlib.Core.Path.{_≡_}
-use mathlib.Core.List.{List, [], _∷_}
-use Rattle.rules.specs.Answers.{refusalNumber, answerNumber, writtenCount, explanationNumber, explanationFigures}
+use mathlib.Core.List.{List}
+use Rattle.rules.specs.Answers.{refusalNumber, answerNumber, writtenCount, explanationNumber, explanationFigures, explainedFigures}
 use Rattle.rules.specs.Listing.{listing, writing, pageAfter}
 use Rattle.rules.specs.Examining.{examine}
 use Rattle.rules.specs.Choosing.{Chosen}
@@ -10,7 +10,6 @@ use Rattle.rules.specs.Explaining.{explain}
 use Rattle.rules.specs.declared.Candidate.{Candidate}
 use Rattle.rules.specs.declared.Answer.{Answer}
 use Rattle.rules.specs.declared.Written.{Written}
-use Rattle.rules.specs.declared.Explained.{Explained}
 use Rattle.rules.specs.declared.Explanation.{Explanation}
 use Rattle.words.specs.Bytes.{numberBytes}
 use Rattle.request.specs.Layout.{candidateWords, decode, askedCandidate, faultNumber}
@@ -65,20 +64,9 @@ ChoosingData page o (Decoded.Data x) = (a : Answer) × Chosen (x .plant) (x .rea
 abbrev pub Choosing : List ℕ → List ℕ → Outcome → Type 0
 Choosing bytes page o = ChoosingData page o (decode bytes 0)
 
--- the explaining figures in the page's order
-abbrev pub figuresOf : Explained → List ℕ
-figuresOf e =
-    e .denitrified
-    ∷ e .removable
-    ∷ e .solids
-    ∷ e .«sludge_volume»
-    ∷ e .surface
-    ∷ e .depth
-    ∷ []
-
 -- an explanation's figures on a page, its number 0 if it is not refused
 abbrev pub figured : Explanation → List ℕ → Outcome
-figured explanation page = putOn (explanationNumber explanation) (numberBytes (figuresOf (explanationFigures explanation))) page
+figured explanation page = putOn (explanationNumber explanation) (numberBytes (explainedFigures (explanationFigures explanation))) page
 
 -- a request to explain
 abbrev pub explainedAt : Candidate → List ℕ → Data → Outcome

@@ -5,9 +5,10 @@ use rules::Answer;
 use rules::Explained;
 use rules::Explanation;
 use rules::Refusal;
+use rules::Verdict;
 use rules::Written;
 ghost use mathlib.Core.Path.{_≡_};
-ghost use Rattle.rules.specs.Answers.{refusalNumber, answerNumber, explanationNumber, explanationFigures};
+ghost use Rattle.rules.specs.Answers.{refusalNumber, answerNumber, verdictNumber, explanationNumber, explanationFigures};
 ghost use Rattle.words.specs.Bytes.{numberBytes};
 ghost use Rattle.interface.specs.Calls.{outcome, putOn, answered, examined, Choosing, figured, explained};
 
@@ -105,7 +106,18 @@ fn explanation_figures(explanation: Explanation) -> Explained
             sludge_volume: 0,
             surface: 0,
             depth: 0,
+            verdict: Verdict::Kept,
         },
+    }
+}
+
+// The paper's number of a verdict: 0 where every rule is kept.
+fn verdict_number(verdict: Verdict) -> u64
+    ensures { λ r. ⌜ r ≡ verdictNumber verdict ⌝ }
+{
+    match verdict {
+        Verdict::Kept => 0,
+        Verdict::Broken(refusal) => listing::refusal_number(refusal),
     }
 }
 
@@ -130,6 +142,7 @@ fn put_explanation(explanation: Explanation, page: &mut [u8], written: &mut u64)
 {
     let number = explanation_number(explanation);
     let explained = explanation_figures(explanation);
+    let verdict = explained.verdict;
     let figures = [
         explained.denitrified,
         explained.removable,
@@ -137,6 +150,7 @@ fn put_explanation(explanation: Explanation, page: &mut [u8], written: &mut u64)
         explained.sludge_volume,
         explained.surface,
         explained.depth,
+        verdict_number(verdict),
     ];
     put_figures(number, &figures, page, written)
 }

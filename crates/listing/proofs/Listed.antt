@@ -4,12 +4,12 @@ use mathlib.Core.Path.{_≡_, sym, _∙_}
 use mathlib.Core.List.{List, [], _∷_, _++_, append-assoc, append-nil}
 use Prim.Native.Nat.{ℕ}
 use Prim.Native.String.{String}
-use Rattle.rules.specs.Answers.{refusalNumber}
+use Rattle.rules.specs.Answers.{refusalNumber, sheetFigures}
 use Rattle.rules.specs.Listing.{text, numeral, line, sheetListing, listing}
 use Rattle.rules.specs.declared.Sheet.{Sheet}
 use Rattle.rules.specs.declared.Refusal.{Refusal}
 use Rattle.rules.specs.declared.Answer.{Answer}
-use Rattle.listing.specs.Forms.{filled, sheetFigures}
+use Rattle.listing.specs.Forms.{filled}
 
 -- lines after some bytes, and by themselves, from their labels and their figures
 unfoldable after : List ℕ → List String → List ℕ → List ℕ

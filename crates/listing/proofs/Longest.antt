@@ -1,14 +1,16 @@
--- A sheet whose figures have 64 bits has a listing of at most 432 bytes: 132 of labels, spaces and newlines, and twenty
--- digits for each figure. Assumes nothing.
+-- Every listing has at most 432 bytes, where a sheet's figures have 64 bits: 132 of labels, spaces and newlines, and twenty
+-- digits for each figure; a refusal's is shorter. Assumes nothing.
 use mathlib.Core.Path.{_≡_, refl}
-use mathlib.Core.List.{List, [], _∷_, _++_}
 use Prim.Native.Nat.{ℕ, _+_, _^_, _≤_, _<_}
 use Prim.Native.String.{String}
 use native.Mathlib.Omega.{arith}
 use lib.ListN.{length, length-append}
-use Rattle.rules.specs.Listing.{text, numeral, line, sheetListing}
+use Rattle.rules.specs.Answers.{refusalNumber}
+use Rattle.rules.specs.Listing.{text, line, sheetListing, listing}
 use Rattle.rules.specs.declared.Sheet.{Sheet}
+use Rattle.rules.specs.declared.Answer.{Answer}
 use Rattle.rules.proofs.Numeral.{numeral-length}
+use Rattle.rules.proofs.RuleOrder.{refusal-number-most}
 
 -- a line has its label, a space, at most twenty digits and a newline
 line-most : (label : String) (n k : ℕ) → length (text label) ≡ k → n < 2 ^ 64 → length (line label n) ≤ k + 22
@@ -33,9 +35,9 @@ pub record Figures64 (s : Sheet) : Type 0 where
   pub oxygen : s .oxygen < 2 ^ 64
   pub transfer : s .transfer < 2 ^ 64
 
-pub listing-most : (s : Sheet) → Figures64 s → length (sheetListing s) ≤ 432
+sheet-most : (s : Sheet) → Figures64 s → length (sheetListing s) ≤ 432
 unfolding sheetListing text
-listing-most s w =
+sheet-most s w =
     simp length-append
     (omega (
       arith,
@@ -55,3 +57,13 @@ listing-most s w =
       line-most "oxygen" (s .oxygen) 6 refl (w .oxygen),
       line-most "transfer" (s .transfer) 8 refl (w .transfer),
     ))
+
+-- an answer as the type holds it
+abbrev pub Answer64 : Answer → Type 0
+Answer64 (Answer.Designed s) = Figures64 s
+Answer64 (Answer.Refused n) = Unit {0}
+
+pub listing-most : (a : Answer) → Answer64 a → length (listing a) ≤ 432
+unfolding listing text
+listing-most (Answer.Designed s) w = sheet-most s w
+listing-most (Answer.Refused n) w = omega (arith, line-most "refused" (refusalNumber n) 7 refl (omega (arith, refusal-number-most n)))

@@ -6,7 +6,6 @@ use mathlib.Core.List.{List, [], _∷_, _++_}
 use lib.Dec.{eqb}
 use lib.ListN.{getD}
 use Rattle.rules.specs.Listing.{numeral}
-use Rattle.rules.specs.declared.Sheet.{Sheet}
 
 -- a form filled in with the figures from the index k on, each mark by the next figure's numeral
 unfoldable pub filled : List ℕ → ℕ → List ℕ → List ℕ
@@ -17,23 +16,3 @@ filled (b ∷ form) k figures = elim (eqb b 35) [ true ↦ numeral (getD figures
 unfoldable pub marks : List ℕ → ℕ
 marks [] = 0
 marks (b ∷ form) = elim (eqb b 35) [ true ↦ suc (marks form) | false ↦ marks form ]
-
--- a sheet's figures, in the listing's order
-unfoldable pub sheetFigures : Sheet → List ℕ
-sheetFigures s =
-    s .fraction
-    ∷ s .«return_ratio»
-    ∷ s .thickening
-    ∷ s .age
-    ∷ s .sludge
-    ∷ s .mass
-    ∷ s .solids
-    ∷ s .reactor
-    ∷ s .surface
-    ∷ s .depth
-    ∷ s .settling
-    ∷ s .total
-    ∷ s .recirculation
-    ∷ s .oxygen
-    ∷ s .transfer
-    ∷ []

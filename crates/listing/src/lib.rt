@@ -3,10 +3,10 @@
 ghost use mathlib.Core.Path.{_≡_};
 ghost use Prim.Native.Nat.{_+_, _≤_};
 ghost use lib.ListN.{length};
-ghost use Rattle.rules.specs.Answers.{refusalNumber};
+ghost use Rattle.rules.specs.Answers.{refusalNumber, sheetFigures};
 ghost use Rattle.rules.specs.Listing.{listing, numeral};
 ghost use Rattle.listing.specs.Pages.{Writes, over};
-ghost use Rattle.listing.specs.Forms.{filled, marks, sheetFigures};
+ghost use Rattle.listing.specs.Forms.{filled, marks};
 use rules::Answer;
 use rules::Refusal;
 use rules::Sheet;

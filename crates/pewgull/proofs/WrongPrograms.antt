@@ -1,6 +1,6 @@
 -- The wrong programs that document 01 names, in one place: for each the theorem that its answer does not keep the promise
--- on concrete data. The edits beside them, which the prover refuses, are in must-fail/ of this crate and of the crates
--- named here. Assumes nothing.
+-- on concrete data. The edits beside them, which the prover refuses, are in must-fail/ of the crates named here.
+-- Assumes nothing.
 
 -- choosing from the first fraction alone, or refusing without a look at the grid: for Case A the first fraction is not
 -- covered, so that both answer 5, and 300, 75, 20 is permitted
@@ -8,12 +8,14 @@ pub use Rattle.choosing.proofs.Refuted.{five-before-looking}
 -- the best design of the least covered fraction: 301, 49, 20 is permitted and smaller
 pub use Rattle.choosing.proofs.Refuted.{least-covered-fraction}
 -- Case A's own listing as the choice, a sheet of zeros, and ties settled otherwise
-pub use Rattle.choosing.proofs.Refuted.{case-A-listing, sheet-of-zeros, ties-to-larger-fraction, ties-by-time-first, vertical-held-to-75}
+pub use Rattle.choosing.proofs.Refuted.{case-A-listing, sheet-of-zeros, ties-to-larger-fraction, ties-by-time-first, ties-to-longer-time, vertical-held-to-75}
 -- the same answer to every candidate, 7 or Case A's sheet; the oxygen uptake rounded alike for capacity and aeration; the
 -- sludge volume loading taken in the depth where the overflow rate is held: fields of one record
 pub use Rattle.examining.proofs.WrongExaminers.{Refuted}
 pub use Rattle.examining.proofs.Refuted.{refuted}
--- a page left as it was, written past the listing's end, or written in part
-pub use Rattle.listing.proofs.Refuted.{not-untouched, not-past-the-end, not-in-part}
+-- every candidate explained as off the grid, or by the figures of one; no rule found broken where one is
+pub use Rattle.explaining.proofs.Refuted.{always-off-grid, one-candidate-explained, verdict-always-kept}
+-- every page refused; a page left as it was, written past the listing's end, or written in part
+pub use Rattle.listing.proofs.Refuted.{not-refused, not-untouched, not-past-the-end, not-in-part}
 -- a reading scaled in floating point, and other wrong conversions
-pub use Rattle.readings.proofs.Refuted.{float-product, tie-upwards, rounded-before-halving, minus-zero, nan-let-through}
+pub use Rattle.accepting.proofs.Refuted.{float-product, tie-upwards, rounded-before-halving, minus-zero, nan-let-through}

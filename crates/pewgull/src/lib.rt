@@ -1,4 +1,5 @@
-// The calls that a host makes: each answers any arguments, and its contract equates its whole outcome with document 01.
+// The calls that a host makes: each answers any arguments, and its contract equates its whole outcome with document 01;
+// once more, as `numbered`, it says what the number, the sheet, the figures and the count are.
 use rules::Answer;
 use rules::Candidate;
 use rules::Explanation;
@@ -9,6 +10,8 @@ ghost use mathlib.Core.Path.{_≡_};
 ghost use Rattle.rules.specs.Examining.{examine};
 ghost use Rattle.rules.specs.Choosing.{Chosen};
 ghost use Rattle.rules.specs.Explaining.{explain};
+ghost use Rattle.rules.specs.Answers.{answerNumber, answerSheet, explanationNumber, explanationFigures, writtenNumber, writtenCount};
+ghost use Rattle.rules.specs.Outcomes.{Examined, ChosenOutcome, ExplainedOutcome, WritingOutcome};
 ghost use Rattle.rules.specs.TwoColumns.{TwoColumns};
 ghost use Rattle.listing.specs.Pages.{Writes};
 
@@ -16,6 +19,7 @@ ghost use Rattle.listing.specs.Pages.{Writes};
 pub fn examine(plant: Plant, readings: Readings, candidate: Candidate) -> Answer
     ensures { λ r. ⌜ r ≡ examine plant readings candidate ⌝ }
     ensures columns { λ r. ⌜ TwoColumns plant readings r ⌝ }
+    ensures numbered { λ r. ⌜ Examined plant readings candidate (answerNumber r) (answerSheet r) ⌝ }
 {
     examining::examine(plant, readings, candidate)
 }
@@ -24,6 +28,7 @@ pub fn examine(plant: Plant, readings: Readings, candidate: Candidate) -> Answer
 pub fn choose(plant: Plant, readings: Readings) -> Answer
     ensures { λ r. ⌜ Chosen plant readings r ⌝ }
     ensures columns { λ r. ⌜ TwoColumns plant readings r ⌝ }
+    ensures numbered { λ r. ⌜ ChosenOutcome plant readings (answerNumber r) (answerSheet r) ⌝ }
 {
     choosing::choose(plant, readings)
 }
@@ -31,6 +36,7 @@ pub fn choose(plant: Plant, readings: Readings) -> Answer
 // The figures that explain a candidate, whatever the rules 7 to 10 say of it.
 pub fn explain(plant: Plant, readings: Readings, candidate: Candidate) -> Explanation
     ensures { λ r. ⌜ r ≡ explain plant readings candidate ⌝ }
+    ensures numbered { λ r. ⌜ ExplainedOutcome plant readings candidate (explanationNumber r) (explanationFigures r) ⌝ }
 {
     explaining::explain(plant, readings, candidate)
 }
@@ -38,6 +44,7 @@ pub fn explain(plant: Plant, readings: Readings, candidate: Candidate) -> Explan
 // The listing of an answer on a lent page: written whole, or refused with 11 and the page as it was.
 pub fn write(answer: Answer, page: &mut [u8]) -> Written
     ensures { λ r. ⌜ Writes answer (now (page .entry)) (now (page .exit)) r ⌝ }
+    ensures numbered { λ r. ⌜ WritingOutcome answer (now (page .entry)) (writtenNumber r) (writtenCount r) ⌝ }
 {
     listing::write(answer, page)
 }

@@ -1,9 +1,11 @@
 -- The limits of a whole reactor, from those of its figures in turn. Assumes nothing.
-use Prim.Native.Nat.{ℕ, _≤_}
+use Prim.Native.Nat.{ℕ, _*_, _≤_}
+use native.Mathlib.Nat.{mul-le-mul, mul-le-mul-right}
 use native.Mathlib.Omega.{arith}
-use Rattle.rules.specs.Ranges.{Between, PlantRanges, ConcentrationRanges, ReactorBounds}
-use Rattle.rules.specs.AgeNitrate.{safetyFactor, aerobicAge, sludgeAge, correctedAge, nitrified}
-use Rattle.rules.specs.SludgeTanks.{carbonSludge, phosphorusSludge, sludgePerPhosphorus, reactorOf}
+use Rattle.rules.specs.Limits.{mostAge, mostNitrogen, mostCapacity, mostSludge}
+use Rattle.rules.specs.Ranges.{GridFraction, PlantRanges, ConcentrationRanges, ReactorBounds}
+use Rattle.rules.specs.AgeNitrate.{safetyFactor, aerobicAge, sludgeAge, correctedAge, nitrified, capacity}
+use Rattle.rules.specs.ReactorSteps.{carbonSludge, phosphorusSludge, sludgePerPhosphorus, reactorOf}
 use Rattle.rules.specs.declared.Plant.{Plant}
 use Rattle.rules.specs.declared.Concentrations.{Concentrations}
 use Rattle.reactor.proofs.AgeLimits.{safety-factor-most, aerobic-age-most, sludge-age-most}
@@ -17,14 +19,15 @@ use Rattle.reactor.proofs.SludgeLimits.{
 
 pub reactor-bounds :
     (p : Plant) (x : Concentrations) (f : ℕ) →
-    PlantRanges p → ConcentrationRanges x → Between 200 500 f → ReactorBounds (reactorOf p x f)
+    PlantRanges p → ConcentrationRanges x → GridFraction f → ReactorBounds (reactorOf p x f)
 unfolding reactorOf
 reactor-bounds p x f hp hx hf =
     record {
+      fraction = hf;
       age = t-most;
       nitrified = w-most;
       denitrified = denitrified-most (nitrified (x .nitrogen) (x .bod)) (p .«nitrate_target») w-most;
-      capacity = capacity-most (p .process) f (p .«design_temperature») (correctedAge t (p .«design_temperature»)) hf (hp .design .most);
+      removes = omega (arith, mul-le-mul k-most (hx .bod .most));
       sludge = s-most;
       mass = sludge-mass-most t (reactorOf p x f .sludge) t-most s-most;
     }
@@ -35,13 +38,16 @@ reactor-bounds p x f hp hx hf =
     t : ℕ
     t = sludgeAge (aerobicAge factor (p .«design_temperature»)) f
 
-    t-most : t ≤ 20_000
+    t-most : t ≤ mostAge
     t-most =
         sludge-age-most (aerobicAge factor (p .«design_temperature»)) f
         (aerobic-age-most factor (p .«design_temperature») (safety-factor-most (p .load)) (hp .design))
         (hf .most)
 
-    w-most : nitrified (x .nitrogen) (x .bod) ≤ 500_000
+    k-most : capacity (p .process) f (p .«design_temperature») (correctedAge t (p .«design_temperature»)) ≤ mostCapacity
+    k-most = capacity-most (p .process) f (p .«design_temperature») (correctedAge t (p .«design_temperature»)) hf (hp .design .most)
+
+    w-most : nitrified (x .nitrogen) (x .bod) ≤ mostNitrogen
     w-most = nitrified-most (x .nitrogen) (x .bod) (hx .nitrogen .most)
 
     carbon : carbonSludge (p .flow) (x .bod) (x .solids) (correctedAge t (p .«design_temperature»)) ≤ 540_000_000
@@ -60,5 +66,10 @@ reactor-bounds p x f hp hx hf =
         (sludge-per-phosphorus-most (p .precipitant))
         (hx .phosphorus .most)
 
-    s-most : reactorOf p x f .sludge ≤ 700_000_000
+    s-most : reactorOf p x f .sludge ≤ mostSludge
     s-most = omega (arith, carbon, phosphorus)
+
+-- what the tank removes is at most 193 for each part of BOD
+pub removes-most : (p : Plant) (x : Concentrations) (f : ℕ) → PlantRanges p → GridFraction f → reactorOf p x f .removes ≤ mostCapacity * x .bod
+unfolding reactorOf
+removes-most p x f hp hf = mul-le-mul-right (x .bod) (capacity-most (p .process) f (p .«design_temperature») _ hf (hp .design .most))

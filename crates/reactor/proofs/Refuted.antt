@@ -17,7 +17,7 @@ use Rattle.rules.specs.AgeNitrate.{
   uptakeCapacity,
   capacity,
 }
-use Rattle.rules.specs.SludgeTanks.{biomassDecay, carbonSludge, phosphorusSludge, sludgeMass}
+use Rattle.rules.specs.ReactorSteps.{biomassDecay, carbonSludge, phosphorusSludge, sludgeMass}
 use Rattle.rules.specs.declared.Process.{Process}
 
 abbrev Differ : ℕ → ℕ → Type 0

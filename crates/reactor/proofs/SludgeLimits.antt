@@ -2,7 +2,7 @@
 use Prim.Native.Nat.{ℕ, _+_, _-_, _*_, _≤_}
 use native.Mathlib.Nat.{mul-le-mul, sub-le}
 use native.Mathlib.Omega.{arith}
-use Rattle.rules.specs.SludgeTanks.{biomassDecay, carbonSludge, sludgePerPhosphorus, phosphorusSludge, sludgeMass}
+use Rattle.rules.specs.ReactorSteps.{biomassDecay, carbonSludge, sludgePerPhosphorus, phosphorusSludge, sludgeMass}
 use Rattle.rules.specs.declared.Precipitant.{Precipitant}
 use Rattle.rules.specs.Rounding.{down}
 use Rattle.reactor.proofs.Limits.{levels-off}

@@ -2,7 +2,8 @@
 ghost use mathlib.Core.Path.{_≡_};
 ghost use Prim.Native.Nat.{_*_, _≤_};
 ghost use Rattle.rules.specs.AgeNitrate.{safetyFactor, perDegree, growth, decay, aerobicAge, sludgeAge, correctedAge};
-ghost use Rattle.rules.specs.Ranges.{Between};
+ghost use Rattle.rules.specs.Ranges.{Temperature};
+ghost use Rattle.rules.specs.Limits.{mostFraction, mostAge};
 
 // 1,000,000 multiplied by multiplier / divisor once for each degree, down at each.
 fn per_degree(multiplier: u64, divisor: u64, degrees: u64) -> u64
@@ -17,7 +18,7 @@ fn per_degree(multiplier: u64, divisor: u64, degrees: u64) -> u64
 
 // G, growth: 1103 / 1000 for each degree below 15, the reverse for each above.
 pub(crate) fn growth(temperature: u64) -> u64
-    requires { ⌜ Between 10 20 temperature ⌝ }
+    requires { ⌜ Temperature temperature ⌝ }
     ensures { λ r. ⌜ (r ≡ growth temperature) × (r ≤ 1_633_000) ⌝ }
 {
     if temperature <= 15 {
@@ -29,7 +30,7 @@ pub(crate) fn growth(temperature: u64) -> u64
 
 // F, decay: 1072 / 1000 for each degree above 15, the reverse for each below.
 pub fn decay(temperature: u64) -> u64
-    requires { ⌜ Between 10 20 temperature ⌝ }
+    requires { ⌜ Temperature temperature ⌝ }
     ensures { λ r. ⌜ (r ≡ decay temperature) × (r ≤ 1_420_000) ⌝ }
 {
     if temperature <= 15 {
@@ -53,7 +54,7 @@ pub fn safety_factor(load: u64) -> u64
 
 // a, aerobic sludge age, thousandths of a day.
 pub fn aerobic_age(factor: u64, temperature: u64) -> u64
-    requires { ⌜ (factor ≤ 180) × Between 10 20 temperature ⌝ }
+    requires { ⌜ (factor ≤ 180) × Temperature temperature ⌝ }
     ensures { λ r. ⌜ (r ≡ aerobicAge factor temperature) × (r ≤ 10_000) ⌝ }
 {
     rounding::round_up(factor * 34 * growth(temperature), 1_000_000)
@@ -61,15 +62,15 @@ pub fn aerobic_age(factor: u64, temperature: u64) -> u64
 
 // t, sludge age, thousandths of a day.
 pub fn sludge_age(aerobic: u64, fraction: u64) -> u64
-    requires { ⌜ (aerobic ≤ 10_000) × (fraction ≤ 500) ⌝ }
-    ensures { λ r. ⌜ (r ≡ sludgeAge aerobic fraction) × (r ≤ 20_000) ⌝ }
+    requires { ⌜ (aerobic ≤ 10_000) × (fraction ≤ mostFraction) ⌝ }
+    ensures { λ r. ⌜ (r ≡ sludgeAge aerobic fraction) × (r ≤ mostAge) ⌝ }
 {
     rounding::round_up(1000 * aerobic, 1000 - fraction)
 }
 
 // U, sludge age corrected for temperature, thousandths of a day: at most 1.42 times the age.
 pub fn corrected_age(age: u64, temperature: u64) -> u64
-    requires { ⌜ (age ≤ 30_000) × Between 10 20 temperature ⌝ }
+    requires { ⌜ (age ≤ 30_000) × Temperature temperature ⌝ }
     ensures { λ r. ⌜ (r ≡ correctedAge age temperature) × (100 * r ≤ 142 * age) ⌝ }
 {
     age * decay(temperature) / 1_000_000

@@ -2,24 +2,31 @@
 mod age;
 mod nitrate;
 mod sludge;
+mod volume;
 
 use rules::Concentrations;
 use rules::Plant;
+use rules::Reactor;
+use rules::Refusal;
+use rules::Verdict;
 ghost use mathlib.Core.Path.{_≡_};
-ghost use Rattle.rules.specs.SludgeTanks.{reactorOf};
-ghost use Rattle.rules.specs.Ranges.{Between, PlantRanges, ConcentrationRanges, ReactorBounds};
+ghost use Rattle.rules.specs.ReactorSteps.{reactorOf};
+ghost use Rattle.rules.specs.Rules.{verdict};
+ghost use Rattle.rules.specs.Examining.{fractionRules};
+ghost use Rattle.rules.specs.Ranges.{GridFraction, PlantRanges, ConcentrationRanges, ReactorBounds};
 pub use age::aerobic_age;
 pub use age::corrected_age;
 pub use age::decay;
 pub use age::safety_factor;
 pub use age::sludge_age;
 pub use nitrate::capacity_uptake;
-pub use nitrate::covers;
 pub use sludge::biomass_decay;
+pub use volume::reactor_solids;
+pub use volume::reactor_volume;
 
-// t, W, D, K, S and M at a fraction of the grid.
-pub fn reactor(plant: Plant, concentrations: Concentrations, fraction: u32) -> rules::Reactor
-    requires { ⌜ PlantRanges plant × ConcentrationRanges concentrations × Between 200 500 fraction ⌝ }
+// f, t, W, D, K × C, S and M at a fraction of the grid.
+pub fn reactor(plant: Plant, concentrations: Concentrations, fraction: u32) -> Reactor
+    requires { ⌜ PlantRanges plant × ConcentrationRanges concentrations × GridFraction fraction ⌝ }
     ensures { λ r. ⌜ (r ≡ reactorOf plant concentrations fraction) × ReactorBounds r ⌝ }
 {
     let f = fraction as u64;
@@ -47,12 +54,23 @@ pub fn reactor(plant: Plant, concentrations: Concentrations, fraction: u32) -> r
     );
     let sludge = carbon + phosphorus;
     let mass = sludge::sludge_mass(age, sludge);
-    rules::Reactor {
+    let removes = capacity * bod;
+    Reactor {
+        fraction: f,
         age,
         nitrified,
         denitrified,
-        capacity,
+        removes,
         sludge,
         mass,
     }
+}
+
+// The verdict on the fraction's rule 7.
+pub fn fraction_verdict(reactor: Reactor) -> Verdict
+    requires { ⌜ ReactorBounds reactor ⌝ }
+    ensures { λ r. ⌜ r ≡ verdict (fractionRules reactor) ⌝ }
+{
+    let covered = nitrate::covered(reactor.removes, reactor.denitrified);
+    verdicts::rule(covered, Refusal::Nitrate, Verdict::Kept)
 }

@@ -3,34 +3,28 @@ use rules::Process;
 ghost use mathlib.Core.Path.{_≡_};
 ghost use Prim.Native.Nat.{_+_, _-_, _*_, _≤_, _<_};
 ghost use Rattle.rules.specs.AgeNitrate.{nitrified, denitrified, tableCapacity, risenCapacity, capacityUptake, uptakeCapacity, capacity, covered};
-ghost use Rattle.rules.specs.Ranges.{Between};
-
-// The difference, or 0 where it would be below.
-pub(crate) fn saturating_sub(a: u64, b: u64) -> u64
-    ensures { λ r. ⌜ r ≡ a - b ⌝ }
-{
-    if a < b { 0 } else { a - b }
-}
+ghost use Rattle.rules.specs.Ranges.{GridFraction};
+ghost use Rattle.rules.specs.Limits.{mostTemperature, mostFraction, mostNitrogen, mostCapacity};
 
 // W, nitrogen to nitrify, mg/m3.
 pub(crate) fn nitrified(nitrogen: u64, bod: u64) -> u64
-    requires { ⌜ (nitrogen ≤ 500_000) × (bod ≤ 2_000_000) ⌝ }
-    ensures { λ r. ⌜ (r ≡ nitrified nitrogen bod) × (r ≤ 500_000) ⌝ }
+    requires { ⌜ (nitrogen ≤ mostNitrogen) × (bod ≤ 2_000_000) ⌝ }
+    ensures { λ r. ⌜ (r ≡ nitrified nitrogen bod) × (r ≤ mostNitrogen) ⌝ }
 {
-    saturating_sub(saturating_sub(nitrogen, 2_000), 4 * bod / 100)
+    rounding::less(rounding::less(nitrogen, 2_000), 4 * bod / 100)
 }
 
 // D, nitrate to denitrify, mg/m3.
 pub(crate) fn denitrified(nitrified: u64, target: u64) -> u64
-    requires { ⌜ nitrified ≤ 500_000 ⌝ }
-    ensures { λ r. ⌜ (r ≡ denitrified nitrified target) × (r ≤ 500_000) ⌝ }
+    requires { ⌜ nitrified ≤ mostNitrogen ⌝ }
+    ensures { λ r. ⌜ (r ≡ denitrified nitrified target) × (r ≤ mostNitrogen) ⌝ }
 {
-    saturating_sub(nitrified, target)
+    rounding::less(nitrified, target)
 }
 
 // Table 3, linear between its figures.
 fn table_capacity(fraction: u64) -> u64
-    requires { ⌜ Between 200 500 fraction ⌝ }
+    requires { ⌜ GridFraction fraction ⌝ }
     ensures { λ r. ⌜ (r ≡ tableCapacity fraction) × (r ≤ 150) ⌝ }
 {
     if fraction <= 300 {
@@ -44,8 +38,8 @@ fn table_capacity(fraction: u64) -> u64
 
 // The rise of Table 3's figure above 12 degrees, a hundredth for each degree.
 fn risen_capacity(table: u64, temperature: u64) -> u64
-    requires { ⌜ (table ≤ 150) × (temperature ≤ 20) ⌝ }
-    ensures { λ r. ⌜ (r ≡ risenCapacity table temperature) × (r ≤ 193) ⌝ }
+    requires { ⌜ (table ≤ 150) × (temperature ≤ mostTemperature) ⌝ }
+    ensures { λ r. ⌜ (r ≡ risenCapacity table temperature) × (r ≤ mostCapacity) ⌝ }
 {
     if temperature <= 12 {
         table
@@ -64,16 +58,16 @@ pub fn capacity_uptake(corrected: u64) -> u64
 
 // The capacity of a process that denitrifies by its oxygen uptake.
 fn uptake_capacity(fraction: u64, corrected: u64) -> u64
-    requires { ⌜ (fraction ≤ 500) × (corrected ≤ 28_400) ⌝ }
-    ensures { λ r. ⌜ (r ≡ uptakeCapacity fraction corrected) × (r ≤ 193) ⌝ }
+    requires { ⌜ (fraction ≤ mostFraction) × (corrected ≤ 28_400) ⌝ }
+    ensures { λ r. ⌜ (r ≡ uptakeCapacity fraction corrected) × (r ≤ mostCapacity) ⌝ }
 {
     75 * fraction * capacity_uptake(corrected) / 290_000
 }
 
 // K, denitrification capacity, g nitrate nitrogen per kg BOD.
 pub(crate) fn capacity(process: Process, fraction: u64, temperature: u64, corrected: u64) -> u64
-    requires { ⌜ Between 200 500 fraction × (temperature ≤ 20) × (corrected ≤ 28_400) ⌝ }
-    ensures { λ r. ⌜ (r ≡ capacity process fraction temperature corrected) × (r ≤ 193) ⌝ }
+    requires { ⌜ GridFraction fraction × (temperature ≤ mostTemperature) × (corrected ≤ 28_400) ⌝ }
+    ensures { λ r. ⌜ (r ≡ capacity process fraction temperature corrected) × (r ≤ mostCapacity) ⌝ }
 {
     match process {
         Process::PreAnoxic => risen_capacity(table_capacity(fraction), temperature),
@@ -83,10 +77,10 @@ pub(crate) fn capacity(process: Process, fraction: u64, temperature: u64, correc
     }
 }
 
-// Whether the capacity covers the nitrate to denitrify.
-pub fn covers(capacity: u64, bod: u64, denitrified: u64) -> bool
-    requires { ⌜ (capacity ≤ 193) × (bod ≤ 2_000_000) × (denitrified ≤ 500_000) ⌝ }
-    ensures { λ r. ⌜ r ≡ covered capacity bod denitrified ⌝ }
+// Whether what the tank removes covers the nitrate to denitrify.
+pub(crate) fn covered(removes: u64, denitrified: u64) -> bool
+    requires { ⌜ denitrified ≤ mostNitrogen ⌝ }
+    ensures { λ r. ⌜ r ≡ covered removes denitrified ⌝ }
 {
-    capacity * bod >= 1000 * denitrified
+    removes >= 1000 * denitrified
 }

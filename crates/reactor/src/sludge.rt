@@ -1,9 +1,9 @@
 // The sludge that carbon and phosphorus make, and the mass of it that the tank holds.
-use crate::nitrate::saturating_sub;
 use rules::Precipitant;
 ghost use mathlib.Core.Path.{_≡_};
 ghost use Prim.Native.Nat.{_≤_};
-ghost use Rattle.rules.specs.SludgeTanks.{biomassDecay, carbonSludge, sludgePerPhosphorus, phosphorusSludge, sludgeMass};
+ghost use Rattle.rules.specs.ReactorSteps.{biomassDecay, carbonSludge, sludgePerPhosphorus, phosphorusSludge, sludgeMass};
+ghost use Rattle.rules.specs.Limits.{mostAge, mostSludge, mostMass};
 
 // e, decay of biomass per kg BOD.
 pub fn biomass_decay(corrected: u64) -> u64
@@ -40,15 +40,15 @@ pub(crate) fn phosphorus_sludge(flow: u64, k: u64, phosphorus: u64, target: u64,
     ensures { λ r. ⌜ (r ≡ phosphorusSludge flow k phosphorus target bod) × (r ≤ 136_000_000) ⌝ }
 {
     rounding::round_up(
-        flow * k * saturating_sub(saturating_sub(phosphorus, target), bod / 100),
+        flow * k * rounding::less(rounding::less(phosphorus, target), bod / 100),
         10_000,
     )
 }
 
 // M, mass of sludge, kg.
 pub(crate) fn sludge_mass(age: u64, sludge: u64) -> u64
-    requires { ⌜ (age ≤ 20_000) × (sludge ≤ 700_000_000) ⌝ }
-    ensures { λ r. ⌜ (r ≡ sludgeMass age sludge) × (r ≤ 14_000_000) ⌝ }
+    requires { ⌜ (age ≤ mostAge) × (sludge ≤ mostSludge) ⌝ }
+    ensures { λ r. ⌜ (r ≡ sludgeMass age sludge) × (r ≤ mostMass) ⌝ }
 {
     rounding::round_up(age * sludge, 1_000_000)
 }

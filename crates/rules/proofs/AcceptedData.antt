@@ -1,12 +1,18 @@
--- Plant data and readings are accepted exactly when none of 1 to 4 is due, and with the readings' own values. One
--- reading goes by its two tests, the five by their order. Assumes nothing.
-use mathlib.Core.Path.{_≡_, refl, sym, ap, ap₂, subst}
-use mathlib.Core.Bool.{Bool, true, false, cond, not}
-use Prim.Native.Nat.{ℕ}
+-- Plant data and readings are accepted exactly when none of 1 to 4 is broken, with the readings' own values, and refused
+-- with n exactly when n is the first one broken. Accepted data are in their ranges. Assumes nothing.
+use mathlib.Core.Logic.{_↔_}
+use mathlib.Core.Path.{_≡_, refl, sym, ap}
+use mathlib.Core.Bool.{Bool, not}
+use mathlib.Core.List.{List, [], _∷_, _++_}
+use Prim.Native.Nat.{ℕ, _≤_}
+use native.Mathlib.Omega.{arith}
 use lib.Dec.{T}
+use lib.Ieee.Fits.{and-l, and-r}
+use Rattle.rules.specs.Rules.{Rule, rule, allKept, verdict, FirstBroken}
 use Rattle.rules.specs.PlantData.{plantInRange}
-use Rattle.rules.specs.LabReadings.{readingNoNumber, readingInRange, readingValue, convert, codRatioBroken, gather, acceptReadings, accept}
-use Rattle.rules.specs.NoneDue.{ReadingKept, NoneDue, valuesOf}
+use Rattle.rules.specs.LabReadings.{resultInRange, headsInRange, readingNoNumber, readingValue, readingInRange, codRatioBroken}
+use Rattle.rules.specs.Accepting.{valuesOf, readingRules, readingsRules, dataRules, acceptBy, accept}
+use Rattle.rules.specs.Ranges.{Between, PlantRanges, ConcentrationRanges}
 use Rattle.rules.specs.declared.Plant.{Plant}
 use Rattle.rules.specs.declared.PrimarySettling.{PrimarySettling}
 use Rattle.rules.specs.declared.Parameter.{Parameter}
@@ -14,102 +20,124 @@ use Rattle.rules.specs.declared.Reading.{Reading}
 use Rattle.rules.specs.declared.Readings.{Readings}
 use Rattle.rules.specs.declared.Concentrations.{Concentrations}
 use Rattle.rules.specs.declared.Refusal.{Refusal}
-use Rattle.rules.specs.declared.Converted.{Converted}
+use Rattle.rules.specs.declared.Verdict.{Verdict}
 use Rattle.rules.specs.declared.Acceptance.{Acceptance}
+use Rattle.rules.proofs.Tests.{within-between}
+use Rattle.rules.proofs.RangeFacts.{plant-ranges}
+use Rattle.rules.proofs.RuleLists.{all-kept-verdict, broken-verdict, kept-append}
 
--- what an acceptance of the plant data p and readings r tells
-abbrev Told : Plant → Readings → Acceptance → Type 0
-Told p r (Acceptance.Refused n) = NoneDue p r → ⊥
-Told p r (Acceptance.Accepted x) = NoneDue p r × (valuesOf p r ≡ x)
+-- an acceptance is not a refusal
+pub refused-no : (n : Refusal) (x : Concentrations) → Acceptance.Refused n ≡ Acceptance.Accepted x → ⊥
+refused-no n x e = let z : _≡_ {A = ℕ} 0 1 = cc in omega arith
 
--- what the conversion of one reading tells
-abbrev Converts : ℕ → PrimarySettling → Parameter → Reading → Converted → Type 0
-Converts q s k r (Converted.Refused n) = ReadingKept q s k r → ⊥
-Converts q s k r (Converted.Value v) = ReadingKept q s k r × (readingValue q s k r ≡ v)
+-- what an acceptance tells of the verdict that it was made by
+by-verdict : (v : Verdict) (x y : Concentrations) → acceptBy v x ≡ Acceptance.Accepted y → (v ≡ Verdict.Kept) × (x ≡ y)
+unfolding acceptBy
+by-verdict Verdict.Kept x y e = (refl, cc)
+by-verdict (Verdict.Broken n) x y e = absurd (refused-no n y e)
 
-converts : (q : ℕ) (s : PrimarySettling) (k : Parameter) (r : Reading) → Converts q s k r (convert q s k r)
-unfolding convert
-converts q s k r = go (readingNoNumber r) (readingInRange q s k r) refl refl
+by-broken : (v : Verdict) (x : Concentrations) (n : Refusal) → acceptBy v x ≡ Acceptance.Refused n → v ≡ Verdict.Broken n
+unfolding acceptBy
+by-broken Verdict.Kept x n e = absurd (refused-no n x (sym e))
+by-broken (Verdict.Broken m) x n e = cc
+
+-- what is accepted breaks none of 1 to 4, and the concentrations are the readings' values
+pub accepted-none-due : (p : Plant) (r : Readings) (x : Concentrations) → accept p r ≡ Acceptance.Accepted x → T (allKept (dataRules p r)) × (valuesOf p r ≡ x)
+unfolding accept
+accepted-none-due p r x e =
+    let h = by-verdict (verdict (dataRules p r)) (valuesOf p r) x e in
+    (all-kept-verdict (dataRules p r) .1 (h .0), h .1)
+
+-- where none of 1 to 4 is broken, the data are accepted
+pub none-due-accepted : (p : Plant) (r : Readings) → T (allKept (dataRules p r)) → accept p r ≡ Acceptance.Accepted (valuesOf p r)
+unfolding accept acceptBy
+none-due-accepted p r none = ap (λ (v : Verdict). acceptBy v (valuesOf p r)) (all-kept-verdict (dataRules p r) .0 none)
+
+-- acceptance refuses with n exactly when n is the first of 1 to 4 that is due
+pub data-refused-when-due : (p : Plant) (r : Readings) (n : Refusal) → (accept p r ≡ Acceptance.Refused n) ↔ FirstBroken (dataRules p r) n
+unfolding accept acceptBy
+data-refused-when-due p r n = (
+  λ e. broken-verdict (dataRules p r) n .1 (by-broken (verdict (dataRules p r)) (valuesOf p r) n e),
+  λ f. ap (λ (v : Verdict). acceptBy v (valuesOf p r)) (broken-verdict (dataRules p r) n .0 f),
+)
+
+-- ---- accepted data are in their ranges
+
+abbrev least : Parameter → ℕ
+least Parameter.Bod = 20_000
+least Parameter.Cod = 20_000
+least Parameter.Solids = 0
+least Parameter.Nitrogen = 0
+least Parameter.Phosphorus = 0
+
+abbrev most : Parameter → ℕ
+most Parameter.Bod = 2_000_000
+most Parameter.Cod = 4_400_000
+most Parameter.Solids = 2_000_000
+most Parameter.Nitrogen = 500_000
+most Parameter.Phosphorus = 100_000
+
+pub result-between : (k : Parameter) (n : ℕ) → T (resultInRange k n) → Between (least k) (most k) n
+unfolding resultInRange
+result-between Parameter.Bod n t = within-between 20_000 2_000_000 n .0 t
+result-between Parameter.Cod n t = within-between 20_000 4_400_000 n .0 t
+result-between Parameter.Solids n t = within-between 0 2_000_000 n .0 t
+result-between Parameter.Nitrogen n t = within-between 0 500_000 n .0 t
+result-between Parameter.Phosphorus n t = within-between 0 100_000 n .0 t
+
+-- no result in range is larger than the largest range
+pub result-most : (k : Parameter) (n : ℕ) → T (resultInRange k n) → n ≤ 4_400_000
+result-most Parameter.Bod n t = omega (arith, result-between Parameter.Bod n t)
+result-most Parameter.Cod n t = omega (arith, result-between Parameter.Cod n t)
+result-most Parameter.Solids n t = omega (arith, result-between Parameter.Solids n t)
+result-most Parameter.Nitrogen n t = omega (arith, result-between Parameter.Nitrogen n t)
+result-most Parameter.Phosphorus n t = omega (arith, result-between Parameter.Phosphorus n t)
+
+-- a reading that keeps 2 and 3 has a value in range
+kept-between : (q : ℕ) (s : PrimarySettling) (k : Parameter) (r : Reading) → T (allKept (readingRules q s k r)) → Between (least k) (most k) (readingValue q s k r)
+unfolding readingInRange
+kept-between q s k r t =
+    let range : T (readingInRange q s k r) = and-l (readingInRange q s k r) Bool.true (and-r (not (readingNoNumber r)) _ t) in
+    result-between k (readingValue q s k r) (and-r (headsInRange r) (resultInRange k (readingValue q s k r)) range)
+
+pub none-due-ranges : (p : Plant) (r : Readings) → T (allKept (dataRules p r)) → PlantRanges p × ConcentrationRanges (valuesOf p r)
+unfolding dataRules valuesOf
+none-due-ranges p r t =
+    let all = and-r (plantInRange p) (allKept (readingsRules p r)) t in
+    let bod = kept-append (of Parameter.Bod (r .bod)) (from-cod) .0 all in
+    let cod = kept-append (of Parameter.Cod (r .cod)) (from-solids) .0 (bod .1) in
+    let solids = kept-append (of Parameter.Solids (r .solids)) (from-nitrogen) .0 (cod .1) in
+    let nitrogen = kept-append (of Parameter.Nitrogen (r .nitrogen)) (from-phosphorus) .0 (solids .1) in
+    let phosphorus = kept-append (of Parameter.Phosphorus (r .phosphorus)) (ratio) .0 (nitrogen .1) in (
+      plant-ranges p .0 (and-l (plantInRange p) (allKept (readingsRules p r)) t),
+      record {
+        bod = kept-between (p .flow) (p .«primary_settling») Parameter.Bod (r .bod) (bod .0);
+        cod = kept-between (p .flow) (p .«primary_settling») Parameter.Cod (r .cod) (cod .0);
+        solids = kept-between (p .flow) (p .«primary_settling») Parameter.Solids (r .solids) (solids .0);
+        nitrogen = kept-between (p .flow) (p .«primary_settling») Parameter.Nitrogen (r .nitrogen) (nitrogen .0);
+        phosphorus = kept-between (p .flow) (p .«primary_settling») Parameter.Phosphorus (r .phosphorus) (phosphorus .0);
+      },
+    )
   where
-    go :
-        (a b : Bool)
-        → readingNoNumber r ≡ a
-        → readingInRange q s k r ≡ b
-        → Converts q s k r (cond a (Converted.Refused Refusal.NoNumber) (cond b (Converted.Value (readingValue q s k r)) (Converted.Refused Refusal.ReadingRange)))
-    go true b e f = λ h. subst (λ (z : Bool). T (not z)) e (h .number)
-    go false false e f = λ h. subst T f (h .range)
-    go false true e f = (record { number = subst (λ (z : Bool). T (not z)) (sym e) tt; range = subst T (sym f) tt }, refl)
+    of : Parameter → Reading → List Rule
+    of k x = readingRules (p .flow) (p .«primary_settling») k x
 
--- the five readings in turn, of plant data in range
-module _ (p : Plant) (r : Readings) (inRange : T (plantInRange p)) where
-  abbrev Gets : Parameter → Reading → Converted → Type 0
-  Gets k x c = Converts (p .flow) (p .«primary_settling») k x c
+    ratio : List Rule
+    ratio = rule Refusal.CodRatio (not (codRatioBroken (valuesOf p r .bod) (valuesOf p r .cod))) ∷ []
 
-  gathers :
-      (a b c d e : Converted)
-      → Gets Parameter.Bod (r .bod) a
-      → Gets Parameter.Cod (r .cod) b
-      → Gets Parameter.Solids (r .solids) c
-      → Gets Parameter.Nitrogen (r .nitrogen) d
-      → Gets Parameter.Phosphorus (r .phosphorus) e
-      → Told p r (gather a b c d e)
-  unfolding gather valuesOf
-  gathers (Converted.Refused n) b c d e ha hb hc hd he = λ none. ha (none .bod)
-  gathers (Converted.Value v) (Converted.Refused n) c d e ha hb hc hd he = λ none. hb (none .cod)
-  gathers (Converted.Value v) (Converted.Value o) (Converted.Refused n) d e ha hb hc hd he = λ none. hc (none .solids)
-  gathers (Converted.Value v) (Converted.Value o) (Converted.Value x) (Converted.Refused n) e ha hb hc hd he = λ none. hd (none .nitrogen)
-  gathers (Converted.Value v) (Converted.Value o) (Converted.Value x) (Converted.Value n) (Converted.Refused m) ha hb hc hd he = λ none. he (none .phosphorus)
-  gathers (Converted.Value v) (Converted.Value o) (Converted.Value x) (Converted.Value n) (Converted.Value w) ha hb hc hd he =
-      go (codRatioBroken v o) (ap₂ codRatioBroken (ha .1) (hb .1))
-    where
-      go :
-          (z : Bool)
-          → codRatioBroken (valuesOf p r .bod) (valuesOf p r .cod) ≡ z
-          → Told p r (cond z (Acceptance.Refused Refusal.CodRatio) (Acceptance.Accepted (record { bod = v; cod = o; solids = x; nitrogen = n; phosphorus = w })))
-      go true e = λ none. subst (λ (z : Bool). T (not z)) e (none .ratio)
-      go false e = (
-        record {
-          plant = inRange;
-          bod = ha .0;
-          cod = hb .0;
-          solids = hc .0;
-          nitrogen = hd .0;
-          phosphorus = he .0;
-          ratio = subst (λ (z : Bool). T (not z)) (sym e) tt;
-        },
-        λ i. record { bod = ha .1 i; cod = hb .1 i; solids = hc .1 i; nitrogen = hd .1 i; phosphorus = he .1 i },
-      )
+    from-phosphorus : List Rule
+    from-phosphorus = of Parameter.Phosphorus (r .phosphorus) ++ ratio
 
-tells : (p : Plant) (r : Readings) → Told p r (accept p r)
-unfolding accept acceptReadings
-tells p r = go (plantInRange p) refl
-  where
-    go :
-        (z : Bool)
-        → plantInRange p ≡ z
-        → Told p r (cond z (acceptReadings (p .flow) (p .«primary_settling») r) (Acceptance.Refused Refusal.PlantData))
-    go false e = λ none. subst T e (none .plant)
-    go true e =
-        gathers p r (subst T (sym e) tt)
-        (convert (p .flow) (p .«primary_settling») Parameter.Bod (r .bod))
-        (convert (p .flow) (p .«primary_settling») Parameter.Cod (r .cod))
-        (convert (p .flow) (p .«primary_settling») Parameter.Solids (r .solids))
-        (convert (p .flow) (p .«primary_settling») Parameter.Nitrogen (r .nitrogen))
-        (convert (p .flow) (p .«primary_settling») Parameter.Phosphorus (r .phosphorus))
-        (converts (p .flow) (p .«primary_settling») Parameter.Bod (r .bod))
-        (converts (p .flow) (p .«primary_settling») Parameter.Cod (r .cod))
-        (converts (p .flow) (p .«primary_settling») Parameter.Solids (r .solids))
-        (converts (p .flow) (p .«primary_settling») Parameter.Nitrogen (r .nitrogen))
-        (converts (p .flow) (p .«primary_settling») Parameter.Phosphorus (r .phosphorus))
+    from-nitrogen : List Rule
+    from-nitrogen = of Parameter.Nitrogen (r .nitrogen) ++ from-phosphorus
 
--- what is accepted has none of 1 to 4 due, and the concentrations are the readings' values
-pub accepted-none-due : (p : Plant) (r : Readings) (x : Concentrations) → accept p r ≡ Acceptance.Accepted x → NoneDue p r × (valuesOf p r ≡ x)
-accepted-none-due p r x e = subst (Told p r) e (tells p r)
+    from-solids : List Rule
+    from-solids = of Parameter.Solids (r .solids) ++ from-nitrogen
 
--- where none of 1 to 4 is due, the data are accepted
-pub none-due-accepted : (p : Plant) (r : Readings) → NoneDue p r → accept p r ≡ Acceptance.Accepted (valuesOf p r)
-none-due-accepted p r none = go (accept p r) (tells p r)
-  where
-    go : (o : Acceptance) → Told p r o → o ≡ Acceptance.Accepted (valuesOf p r)
-    go (Acceptance.Refused n) t = absurd (t none)
-    go (Acceptance.Accepted x) t = ap Acceptance.Accepted (sym (t .1))
+    from-cod : List Rule
+    from-cod = of Parameter.Cod (r .cod) ++ from-solids
+
+pub accepted-ranges : (p : Plant) (r : Readings) (x : Concentrations) → accept p r ≡ Acceptance.Accepted x → PlantRanges p × ConcentrationRanges x
+accepted-ranges p r x e =
+    let h = accepted-none-due p r x e in
+    rw (h .1) at (none-due-ranges p r (h .0))

@@ -1,20 +1,16 @@
 -- Demand 3 determines the answer: two answers that keep it are equal. Of two least designs neither comes before the
 -- other, so their totals, fractions, return ratios and thickening times agree, and with them their sheets.
 -- Assumes nothing.
-use mathlib.Core.Path.{_≡_, refl, sym, ap, _∙_}
-use Prim.Native.Nat.{ℕ, _≤_}
+use mathlib.Core.Path.{_≡_, sym, ap, _∙_}
 use native.Mathlib.Nat.{le-antisymm}
-use native.Mathlib.Omega.{arith}
-use lib.Dec.{T}
-use Rattle.rules.specs.LabReadings.{accept}
-use Rattle.rules.specs.Examining.{sheetOf, permitted}
+use Rattle.rules.specs.Accepting.{accept}
+use Rattle.rules.specs.Examining.{sheetOf}
 use Rattle.rules.specs.Choosing.{Candidates, candidateOf, candidateTotal, NotBefore, Least, ChosenAmong, ChosenAccepted, Chosen, grid}
 use Rattle.rules.specs.declared.Plant.{Plant}
 use Rattle.rules.specs.declared.Readings.{Readings}
 use Rattle.rules.specs.declared.Concentrations.{Concentrations}
 use Rattle.rules.specs.declared.Candidate.{Candidate}
 use Rattle.rules.specs.declared.Sheet.{Sheet}
-use Rattle.rules.specs.declared.Refusal.{Refusal}
 use Rattle.rules.specs.declared.Acceptance.{Acceptance}
 use Rattle.rules.specs.declared.Answer.{Answer}
 

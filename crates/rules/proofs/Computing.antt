@@ -3,11 +3,14 @@
 use lib.Ieee.{round}
 use Rattle.rules.specs.PlantData.{plantFigures, plantInRange}
 use Rattle.rules.specs.LabReadings
+use Rattle.rules.specs.Accepting
 use Rattle.rules.specs.AgeNitrate
-use Rattle.rules.specs.SludgeTanks
+use Rattle.rules.specs.ReactorSteps
+use Rattle.rules.specs.SettlingSteps
 use Rattle.rules.specs.AerationSteps
 use Rattle.rules.specs.Examining
 use Rattle.rules.specs.Choosing
+use Rattle.rules.specs.Explaining
 use Rattle.rules.specs.Answers
 use Rattle.rules.specs.Listing
 use Rattle.rules.specs.Cases
@@ -25,11 +28,11 @@ unfolding
     LabReadings.headsInRange
     LabReadings.readingValue
     LabReadings.readingInRange
-    LabReadings.convert
     LabReadings.codRatioBroken
-    LabReadings.gather
-    LabReadings.acceptReadings
-    LabReadings.accept
+    Accepting.valuesOf
+    Accepting.dataRules
+    Accepting.acceptBy
+    Accepting.accept
     AgeNitrate.largestReturnRatio
     AgeNitrate.onGrid
     AgeNitrate.safetyFactor
@@ -48,30 +51,30 @@ unfolding
     AgeNitrate.capacity
     AgeNitrate.removable
     AgeNitrate.covered
-    SludgeTanks.biomassDecay
-    SludgeTanks.carbonSludge
-    SludgeTanks.sludgePerPhosphorus
-    SludgeTanks.phosphorusSludge
-    SludgeTanks.sludgeMass
-    SludgeTanks.reactorOf
-    SludgeTanks.rootFrom
-    SludgeTanks.cubeRoot
-    SludgeTanks.thickeningRoot
-    SludgeTanks.bottomSludge
-    SludgeTanks.returnShare
-    SludgeTanks.returnSludge
-    SludgeTanks.mixedSolids
-    SludgeTanks.dilutedVolume
-    SludgeTanks.solidsKept
-    SludgeTanks.volumeLoading
-    SludgeTanks.largestOverflowRate
-    SludgeTanks.surfaceOverflowRate
-    SludgeTanks.settlingSurface
-    SludgeTanks.settlingDepth
-    SludgeTanks.settlingVolume
-    SludgeTanks.settlingOf
-    SludgeTanks.reactorSolids
-    SludgeTanks.reactorVolume
+    ReactorSteps.biomassDecay
+    ReactorSteps.carbonSludge
+    ReactorSteps.sludgePerPhosphorus
+    ReactorSteps.phosphorusSludge
+    ReactorSteps.sludgeMass
+    ReactorSteps.reactorOf
+    SettlingSteps.rootFrom
+    SettlingSteps.cubeRoot
+    SettlingSteps.thickeningRoot
+    SettlingSteps.bottomSludge
+    SettlingSteps.returnShare
+    SettlingSteps.returnSludge
+    SettlingSteps.mixedSolids
+    SettlingSteps.dilutedVolume
+    SettlingSteps.solidsKept
+    SettlingSteps.volumeLoading
+    SettlingSteps.largestOverflowRate
+    SettlingSteps.surfaceOverflowRate
+    SettlingSteps.settlingSurface
+    SettlingSteps.settlingDepth
+    SettlingSteps.settlingVolume
+    SettlingSteps.settlingOf
+    ReactorSteps.reactorSolids
+    ReactorSteps.reactorVolume
     AerationSteps.aerationUptake
     AerationSteps.carbonOxygen
     AerationSteps.nitrificationOxygen
@@ -83,22 +86,30 @@ unfolding
     Examining.totalOf
     Examining.sheetFrom
     Examining.sheetOf
-    Examining.keepsGrid
-    Examining.keepsNitrate
-    Examining.keepsSolids
-    Examining.keepsSurface
-    Examining.keepsDepth
+    Examining.candidateRules
     Examining.permitted
+    Examining.answerBy
     Examining.judge
     Examining.judgeAccepted
     Examining.examine
+    Examining.examinationRules
+    Explaining.explainedBy
+    Explaining.candidateExplained
+    Explaining.explainCandidate
+    Explaining.explainAccepted
+    Explaining.explain
+    Explaining.explanationRules
     Choosing.candidateOf
     Choosing.candidateTotal
-    Answers.refusalNumber
     Answers.emptySheet
     Answers.answerNumber
     Answers.answerSheet
     Answers.acceptanceNumber
+    Answers.verdictNumber
+    Answers.sheetFigures
+    Answers.explainedFigures
+    Answers.explanationNumber
+    Answers.explanationFigures
     Listing.text
     Listing.digits
     Listing.numeral
@@ -113,5 +124,6 @@ unfolding
     Cases.readingsA
     Cases.concentrationsA
     Cases.candidate
+    Cases.readingA
     Cases.hopperVolume
 steps = tt

@@ -7,7 +7,7 @@ use native.Mathlib.Nat.{mul-le-mul, lt-of-not-le, le-antisymm}
 use native.Mathlib.Omega.{arith}
 use borrow.Author.Tests.{leb-true, leb-false}
 use lib.Dec.{leb}
-use Rattle.rules.specs.SludgeTanks.{rootFrom, cubeRoot}
+use Rattle.rules.specs.SettlingSteps.{rootFrom, cubeRoot}
 
 cube-mono : {a b : ℕ} → a ≤ b → a * a * a ≤ b * b * b
 cube-mono h = mul-le-mul (mul-le-mul h h) h

@@ -1,7 +1,7 @@
 -- The rounding facts, one law for any divisor each way. Assumes nothing.
 use mathlib.Core.Logic.{_↔_}
 use mathlib.Core.Path.{_≡_}
-use Prim.Native.Nat.{ℕ, _+_, _-_, _*_, _/_, _≤_, _<_, suc}
+use Prim.Native.Nat.{ℕ, _+_, _-_, _*_, _≤_, _<_, suc}
 use native.Mathlib.Nat.{le-refl, le-div-iff-mul-le, div-lt-iff-lt-mul, suc-mul}
 use native.Mathlib.Omega.{arith}
 use Rattle.rules.specs.Rounding.{down, up}

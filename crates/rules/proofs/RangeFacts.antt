@@ -6,8 +6,9 @@ use mathlib.Core.Bool.{Bool, _&&_}
 use lib.Dec.{T}
 use lib.Ieee.Fits.{and-i, and-l, and-r}
 use Rattle.rules.specs.PlantData.{within, plantFigures, plantInRange}
+use Rattle.rules.specs.Limits.{leastFraction, mostFraction, leastRatio, mostRatio, leastTime, mostTime}
 use Rattle.rules.specs.AgeNitrate.{largestReturnRatio, onGrid}
-use Rattle.rules.specs.Ranges.{Between, PlantRanges, GridRanges, OnGrid}
+use Rattle.rules.specs.Ranges.{Between, GridFraction, GridTime, PlantRanges, OnGrid}
 use Rattle.rules.specs.declared.Plant.{Plant}
 use Rattle.rules.specs.declared.TankFlow.{TankFlow}
 use Rattle.rules.specs.declared.Candidate.{Candidate}
@@ -59,31 +60,37 @@ pub plant-ranges : (p : Plant) → T (plantInRange p) ↔ PlantRanges p
 unfolding plantInRange
 plant-ranges p = (λ t. named p (all-between (plantFigures p) t), λ b. between-all (plantFigures p) (listed p b))
 
+-- a candidate is on the grid
+pub record GridRanges (tank : TankFlow) (y : Candidate) : Type 0 where
+  pub fraction : GridFraction (y .fraction)
+  pub ratio : Between leastRatio (largestReturnRatio tank) (y .«return_ratio»)
+  pub time : GridTime (y .thickening)
+
 pub grid-ranges : (tank : TankFlow) (y : Candidate) → T (onGrid tank y) ↔ GridRanges tank y
 unfolding onGrid
 grid-ranges tank y = (
   λ t.
       record {
-        fraction = within-between 200 500 (y .fraction) .0 (and-l fraction ratio (and-l (fraction && ratio) time t));
-        ratio = within-between 30 (largestReturnRatio tank) (y .«return_ratio») .0 (and-r fraction ratio (and-l (fraction && ratio) time t));
-        time = within-between 20 25 (y .thickening) .0 (and-r (fraction && ratio) time t);
+        fraction = within-between leastFraction mostFraction (y .fraction) .0 (and-l fraction ratio (and-l (fraction && ratio) time t));
+        ratio = within-between leastRatio (largestReturnRatio tank) (y .«return_ratio») .0 (and-r fraction ratio (and-l (fraction && ratio) time t));
+        time = within-between leastTime mostTime (y .thickening) .0 (and-r (fraction && ratio) time t);
       },
   λ g.
       and-i (fraction && ratio) time
-      (and-i fraction ratio (within-between 200 500 (y .fraction) .1 (g .fraction)) (within-between 30 (largestReturnRatio tank) (y .«return_ratio») .1 (g .ratio)))
-      (within-between 20 25 (y .thickening) .1 (g .time)),
+      (and-i fraction ratio (within-between leastFraction mostFraction (y .fraction) .1 (g .fraction)) (within-between leastRatio (largestReturnRatio tank) (y .«return_ratio») .1 (g .ratio)))
+      (within-between leastTime mostTime (y .thickening) .1 (g .time)),
 )
   where
     fraction : Bool
-    fraction = within 200 500 (y .fraction)
+    fraction = within leastFraction mostFraction (y .fraction)
 
     ratio : Bool
-    ratio = within 30 (largestReturnRatio tank) (y .«return_ratio»)
+    ratio = within leastRatio (largestReturnRatio tank) (y .«return_ratio»)
 
     time : Bool
-    time = within 20 25 (y .thickening)
+    time = within leastTime mostTime (y .thickening)
 
-pub ratio-most : (tank : TankFlow) → largestReturnRatio tank ≤ 100
+pub ratio-most : (tank : TankFlow) → largestReturnRatio tank ≤ mostRatio
 unfolding largestReturnRatio
 ratio-most TankFlow.Horizontal = omega arith
 ratio-most TankFlow.Vertical = omega arith
@@ -92,5 +99,5 @@ ratio-most TankFlow.Vertical = omega arith
 pub on-grid : (tank : TankFlow) (y : Candidate) → T (onGrid tank y) → OnGrid y
 on-grid tank y t =
     let g = grid-ranges tank y .0 t in
-    let m : largestReturnRatio tank ≤ 100 = ratio-most tank in
+    let m : largestReturnRatio tank ≤ mostRatio = ratio-most tank in
     record { fraction = g .fraction; ratio = record { least = g .ratio .least; most = omega (arith, g .ratio) }; time = g .time }

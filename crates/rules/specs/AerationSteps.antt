@@ -25,7 +25,7 @@ unfoldable pub savedOxygen : ℕ → ℕ → ℕ
 savedOxygen flow d = down (29 * flow * d) 10_000
 
 -- hourly oxygen, g/h, the larger of the carbon and the nitrogen peak (5-27), from carbon less saved, nitrification, fC
--- and fN. Where the nitrate is covered, saved is at most carbon (law `saved-at-most-carbon` in proofs/).
+-- and fN. Where the nitrate is covered, saved is at most carbon (`saved-at-most-carbon` in crates/aeration/proofs).
 unfoldable pub hourlyOxygen : ℕ → ℕ → ℕ → ℕ → ℕ
 hourlyOxygen net nitrification carbonPeak nitrogenPeak =
     max (up (carbonPeak * net + 100 * nitrification) 2400) (up (100 * net + nitrogenPeak * nitrification) 2400)

@@ -5,6 +5,7 @@ use mathlib.Core.Bool.{Bool, cond, _&&_}
 use lib.Dec.{leb}
 use Rattle.rules.specs.Rounding.{down, up}
 use Rattle.rules.specs.PlantData.{within}
+use Rattle.rules.specs.Limits.{leastFraction, mostFraction, leastRatio, mostRatio, leastTime, mostTime}
 use Rattle.rules.specs.declared.TankFlow.{TankFlow}
 use Rattle.rules.specs.declared.Candidate.{Candidate}
 use Rattle.rules.specs.declared.Process.{Process}
@@ -12,12 +13,14 @@ use Rattle.rules.specs.declared.Process.{Process}
 -- the largest return ratio of the grid
 unfoldable pub largestReturnRatio : TankFlow → ℕ
 largestReturnRatio TankFlow.Horizontal = 75
-largestReturnRatio TankFlow.Vertical = 100
+largestReturnRatio TankFlow.Vertical = mostRatio
 
 -- document 01's "grid": the fractions f, return ratios r and thickening times h that are candidates
 unfoldable pub onGrid : TankFlow → Candidate → Bool
 onGrid tank y =
-    within 200 500 (y .fraction) && within 30 (largestReturnRatio tank) (y .«return_ratio») && within 20 25 (y .thickening)
+    within leastFraction mostFraction (y .fraction)
+    && within leastRatio (largestReturnRatio tank) (y .«return_ratio»)
+    && within leastTime mostTime (y .thickening)
 
 -- SF, safety factor, hundredths, for the BOD load L
 unfoldable pub safetyFactor : ℕ → ℕ
@@ -81,10 +84,10 @@ capacity Process.Simultaneous fraction temperature corrected = uptakeCapacity fr
 capacity Process.Intermittent fraction temperature corrected = uptakeCapacity fraction corrected
 capacity (Process.StepFeed steps) fraction temperature corrected = risenCapacity (tableCapacity fraction) temperature
 
--- the nitrate that the tank can remove, mg/m3, from K and C: the second of the two columns that are read aloud
-unfoldable pub removable : ℕ → ℕ → ℕ
-removable k bod = down (k * bod) 1000
+-- the nitrate that the tank can remove, mg/m3, from K × C: the second of the two columns that are read aloud
+unfoldable pub removable : ℕ → ℕ
+removable removes = down removes 1000
 
--- document 01's "covered": K × C ≥ 1000 × D
-unfoldable pub covered : ℕ → ℕ → ℕ → Bool
-covered k bod d = leb (1000 * d) (k * bod)
+-- document 01's "covered", from K × C and D: K × C ≥ 1000 × D
+unfoldable pub covered : ℕ → ℕ → Bool
+covered removes d = leb (1000 * d) removes

@@ -1,7 +1,9 @@
 -- Document 01, "Numbered answers": the paper's number and values for each case of an answer. Assumes nothing.
 use Prim.Native.Nat.{ℕ}
+use mathlib.Core.List.{List, [], _∷_}
 use Rattle.rules.specs.declared.Sheet.{Sheet}
 use Rattle.rules.specs.declared.Refusal.{Refusal}
+use Rattle.rules.specs.declared.Verdict.{Verdict}
 use Rattle.rules.specs.declared.Acceptance.{Acceptance}
 use Rattle.rules.specs.declared.Answer.{Answer}
 use Rattle.rules.specs.declared.Written.{Written}
@@ -9,7 +11,7 @@ use Rattle.rules.specs.declared.Explained.{Explained}
 use Rattle.rules.specs.declared.Explanation.{Explanation}
 
 -- the paper's number of each refusal
-unfoldable pub refusalNumber : Refusal → ℕ
+abbrev pub refusalNumber : Refusal → ℕ
 refusalNumber Refusal.PlantData = 1
 refusalNumber Refusal.NoNumber = 2
 refusalNumber Refusal.ReadingRange = 3
@@ -74,4 +76,41 @@ explanationNumber (Explanation.Refused n) = refusalNumber n
 unfoldable pub explanationFigures : Explanation → Explained
 explanationFigures (Explanation.Figures e) = e
 explanationFigures (Explanation.Refused n) =
-    record { denitrified = 0; removable = 0; solids = 0; «sludge_volume» = 0; surface = 0; depth = 0 }
+    record { denitrified = 0; removable = 0; solids = 0; «sludge_volume» = 0; surface = 0; depth = 0; verdict = Verdict.Kept }
+
+-- the number of a verdict: 0 where every rule is kept
+unfoldable pub verdictNumber : Verdict → ℕ
+verdictNumber Verdict.Kept = 0
+verdictNumber (Verdict.Broken n) = refusalNumber n
+
+-- the figures on a sheet, in the listing's order
+unfoldable pub sheetFigures : Sheet → List ℕ
+sheetFigures s =
+    s .fraction
+    ∷ s .«return_ratio»
+    ∷ s .thickening
+    ∷ s .age
+    ∷ s .sludge
+    ∷ s .mass
+    ∷ s .solids
+    ∷ s .reactor
+    ∷ s .surface
+    ∷ s .depth
+    ∷ s .settling
+    ∷ s .total
+    ∷ s .recirculation
+    ∷ s .oxygen
+    ∷ s .transfer
+    ∷ []
+
+-- the figures of an explanation in their order; the last is the number of the first of 7 to 10 that is broken, or 0
+unfoldable pub explainedFigures : Explained → List ℕ
+explainedFigures e =
+    e .denitrified
+    ∷ e .removable
+    ∷ e .solids
+    ∷ e .«sludge_volume»
+    ∷ e .surface
+    ∷ e .depth
+    ∷ verdictNumber (e .verdict)
+    ∷ []

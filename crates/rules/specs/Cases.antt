@@ -1,12 +1,14 @@
 -- Document 01, "Case A and its listing" and the table cases (1) to (9): the data, and one record of all the equations.
 -- The theorem `cases` in proofs/WorkedCases.antt proves the record. Assumes nothing.
-use Prim.Native.Nat.{ℕ}
+use Prim.Native.Nat.{ℕ, _*_}
 use mathlib.Core.Path.{_≡_}
 use mathlib.Core.Bool.{false}
 use lib.Ieee.{Float, binary32, round}
-use Rattle.rules.specs.LabReadings.{thousandths, accept}
+use Rattle.rules.specs.LabReadings.{readingValue}
+use Rattle.rules.specs.Accepting.{accept}
 use Rattle.rules.specs.AgeNitrate.{growth, decay, safetyFactor, aerobicAge, sludgeAge}
-use Rattle.rules.specs.SludgeTanks.{thickeningRoot, reactorOf, settlingOf}
+use Rattle.rules.specs.ReactorSteps.{reactorOf}
+use Rattle.rules.specs.SettlingSteps.{thickeningRoot, settlingOf}
 use Rattle.rules.specs.Examining.{examine}
 use Rattle.rules.specs.Answers.{answerNumber, acceptanceNumber}
 use Rattle.rules.specs.Listing.{text, listing}
@@ -16,14 +18,17 @@ use Rattle.rules.specs.declared.Precipitant.{Precipitant}
 use Rattle.rules.specs.declared.TankFlow.{TankFlow}
 use Rattle.rules.specs.declared.Removal.{Removal}
 use Rattle.rules.specs.declared.PrimarySettling.{PrimarySettling}
+use Rattle.rules.specs.declared.Parameter.{Parameter}
 use Rattle.rules.specs.declared.Reading.{Reading}
+use Rattle.rules.specs.declared.Reading.the-variants.{Below}
 use Rattle.rules.specs.declared.Readings.{Readings}
 use Rattle.rules.specs.declared.Concentrations.{Concentrations}
 use Rattle.rules.specs.declared.Candidate.{Candidate}
 
--- Case A's plant with what other cases vary left open: Q, N3, the site's depth, process, tank and sludge removal
-unfoldable pub variant : ℕ → ℕ → ℕ → Process → TankFlow → Removal → Plant
-variant flow target depth process tank removal =
+-- Case A's plant with what other cases vary left open: Q, N3, the site's surface and depth, process, tank and sludge
+-- removal
+unfoldable pub variant : ℕ → ℕ → ℕ → ℕ → Process → TankFlow → Removal → Plant
+variant flow target surface depth process tank removal =
     record {
       load = 1_200;
       flow = flow;
@@ -36,7 +41,7 @@ variant flow target depth process tank removal =
       «carbon_peak» = 120;
       «nitrogen_peak» = 200;
       «oxygen_saturation» = 9_000;
-      «site_surface» = 1_000;
+      «site_surface» = surface;
       «site_depth» = depth;
       process = process;
       precipitant = Precipitant.Iron;
@@ -46,11 +51,11 @@ variant flow target depth process tank removal =
     }
 
 unfoldable pub caseA : Plant
-caseA = variant 5_000 10_000 5_000 Process.PreAnoxic TankFlow.Horizontal Removal.Scraper
+caseA = variant 5_000 10_000 1_000 5_000 Process.PreAnoxic TankFlow.Horizontal Removal.Scraper
 
 -- the same with a vertical tank and hoppers, for case (8)
 unfoldable pub hopperPlant : Plant
-hopperPlant = variant 5_000 10_000 5_000 Process.PreAnoxic TankFlow.Vertical Removal.Hopper
+hopperPlant = variant 5_000 10_000 1_000 5_000 Process.PreAnoxic TankFlow.Vertical Removal.Hopper
 
 -- the f32 nearest to a / d
 unfoldable pub f32 : ℕ → ℕ → Float
@@ -78,6 +83,10 @@ concentrationsA = record { bod = 200_000; cod = 400_000; solids = 150_000; nitro
 unfoldable pub candidate : ℕ → ℕ → ℕ → Candidate
 candidate f r h = record { fraction = f; «return_ratio» = r; thickening = h }
 
+-- the thousandths of a reading of Case A's plant
+unfoldable pub readingA : Reading → ℕ
+readingA r = readingValue (caseA .flow) (caseA .«primary_settling») Parameter.Solids r
+
 -- V for a vertical tank with hoppers at I 100, h 20 and the return ratio r
 unfoldable pub hopperVolume : ℕ → ℕ
 hopperVolume r = settlingOf hopperPlant r 20 .«sludge_volume»
@@ -100,10 +109,10 @@ pub record Cases : Type 0 where
   pub case-4-at-500 : sludgeAge 8_213 500 ≡ 16_426
   pub case-5-at-20 : thickeningRoot 20 ≡ 1_259
   pub case-5-at-25 : thickeningRoot 25 ≡ 1_357
-  pub case-6-tie-down : thousandths 1 (f32 625 10_000) ≡ 62
-  pub case-6-tie-up : thousandths 1 (f32 1_875 10_000) ≡ 188
-  pub case-6-below : thousandths 2 (f32 125 1_000) ≡ 62
-  pub case-7-capacity : reactorOf caseA concentrationsA 299 .capacity ≡ 129
+  pub case-6-tie-down : readingA (Reading.Measured (f32 625 10_000)) ≡ 62
+  pub case-6-tie-up : readingA (Reading.Measured (f32 1_875 10_000)) ≡ 188
+  pub case-6-below : readingA (Below (f32 125 1_000)) ≡ 62
+  pub case-7-capacity : reactorOf caseA concentrationsA 299 .removes ≡ 129 * 200_000
   pub case-7-refusal : answerNumber (examine caseA readingsA (candidate 299 75 20)) ≡ 7
   pub case-8-at-91 : hopperVolume 91 ≡ 600
   pub case-8-at-92 : hopperVolume 92 ≡ 604

@@ -3,9 +3,11 @@
 use Prim.Native.Nat.{ℕ, _≤_}
 use mathlib.Core.Path.{_≡_}
 use lib.Dec.{T}
-use Rattle.rules.specs.LabReadings.{accept}
-use Rattle.rules.specs.SludgeTanks.{reactorOf, settlingOf}
-use Rattle.rules.specs.Examining.{totalOf, sheetOf, permitted, keepsGrid}
+use Rattle.rules.specs.Accepting.{accept}
+use Rattle.rules.specs.AgeNitrate.{onGrid}
+use Rattle.rules.specs.ReactorSteps.{reactorOf}
+use Rattle.rules.specs.SettlingSteps.{settlingOf}
+use Rattle.rules.specs.Examining.{totalOf, sheetOf, permitted}
 use Rattle.rules.specs.declared.Plant.{Plant}
 use Rattle.rules.specs.declared.Readings.{Readings}
 use Rattle.rules.specs.declared.Concentrations.{Concentrations}
@@ -21,7 +23,7 @@ Candidates = Candidate → Type 0
 
 -- the whole grid of a plant
 abbrev pub grid : Plant → Candidates
-grid p y = T (keepsGrid p y)
+grid p y = T (onGrid (p .tank) y)
 
 -- the candidate that a sheet names
 unfoldable pub candidateOf : Sheet → Candidate

@@ -1,12 +1,14 @@
--- Document 01, examining: the sheet of a candidate, the rules 6 to 10, "permitted", and what examining answers.
--- Assumes nothing.
+-- Document 01, examining: the sheet of a candidate, the rules 6 to 10 in their order, "permitted", and what examining
+-- answers. Assumes nothing.
 use Prim.Native.Nat.{ℕ, _+_}
-use mathlib.Core.Path.{_≡_}
-use mathlib.Core.Bool.{Bool, cond, not, _&&_}
-use lib.Dec.{T, leb}
-use Rattle.rules.specs.LabReadings.{accept}
+use mathlib.Core.Bool.{Bool}
+use mathlib.Core.List.{List, [], _∷_, _++_}
+use lib.Dec.{leb}
+use Rattle.rules.specs.Rules.{Rule, rule, allKept, verdict}
+use Rattle.rules.specs.Accepting.{accept, dataRules, valuesOf}
 use Rattle.rules.specs.AgeNitrate.{onGrid, covered}
-use Rattle.rules.specs.SludgeTanks.{reactorOf, settlingOf, solidsKept, reactorSolids, reactorVolume}
+use Rattle.rules.specs.ReactorSteps.{reactorOf, reactorSolids, reactorVolume}
+use Rattle.rules.specs.SettlingSteps.{settlingOf, solidsKept}
 use Rattle.rules.specs.AerationSteps.{aerationOf}
 use Rattle.rules.specs.declared.Plant.{Plant}
 use Rattle.rules.specs.declared.Readings.{Readings}
@@ -17,6 +19,7 @@ use Rattle.rules.specs.declared.Settling.{Settling}
 use Rattle.rules.specs.declared.Aeration.{Aeration}
 use Rattle.rules.specs.declared.Sheet.{Sheet}
 use Rattle.rules.specs.declared.Refusal.{Refusal}
+use Rattle.rules.specs.declared.Verdict.{Verdict}
 use Rattle.rules.specs.declared.Acceptance.{Acceptance}
 use Rattle.rules.specs.declared.Answer.{Answer}
 
@@ -51,46 +54,40 @@ sheetOf p x y =
     let reactor = reactorOf p x (y .fraction) in
     sheetFrom p y reactor (settlingOf p (y .«return_ratio») (y .thickening)) (aerationOf p x reactor)
 
--- what the rules 6 to 10 ask of a candidate, each by itself: 6 on the grid
-unfoldable pub keepsGrid : Plant → Candidate → Bool
-keepsGrid p y = onGrid (p .tank) y
+-- 7, of the fraction alone: the nitrate is covered
+abbrev pub fractionRules : Reactor → List Rule
+fractionRules reactor = rule Refusal.Nitrate (covered (reactor .removes) (reactor .denitrified)) ∷ []
 
--- 7: the nitrate is covered
-unfoldable pub keepsNitrate : Plant → Concentrations → Candidate → Bool
-keepsNitrate p x y =
-    let reactor = reactorOf p x (y .fraction) in
-    covered (reactor .capacity) (x .bod) (reactor .denitrified)
+-- 8 to 10, of the settling tank alone: E ≥ 1,000 and V ≤ 600; the surface, then the depth, at most the site's
+abbrev pub tankRules : Plant → Settling → List Rule
+tankRules p settling =
+    rule Refusal.Solids (solidsKept (settling .solids) (settling .«sludge_volume»))
+    ∷ rule Refusal.Surface (leb (settling .surface) (p .«site_surface»))
+    ∷ rule Refusal.Depth (leb (settling .depth) (p .«site_depth»))
+    ∷ []
 
--- 8: E ≥ 1,000 and V ≤ 600
-unfoldable pub keepsSolids : Plant → Candidate → Bool
-keepsSolids p y =
-    let settling = settlingOf p (y .«return_ratio») (y .thickening) in
-    solidsKept (settling .solids) (settling .«sludge_volume»)
+-- 6: the candidate is on the grid
+abbrev pub gridRule : Plant → Candidate → Rule
+gridRule p y = rule Refusal.OffGrid (onGrid (p .tank) y)
 
--- 9: the surface is at most the site's
-unfoldable pub keepsSurface : Plant → Candidate → Bool
-keepsSurface p y = leb (settlingOf p (y .«return_ratio») (y .thickening) .surface) (p .«site_surface»)
-
--- 10: the depth is at most the site's
-unfoldable pub keepsDepth : Plant → Candidate → Bool
-keepsDepth p y = leb (settlingOf p (y .«return_ratio») (y .thickening) .depth) (p .«site_depth»)
+-- the rules for a candidate of accepted data, 6 to 10
+unfoldable pub candidateRules : Plant → Concentrations → Candidate → List Rule
+candidateRules p x y =
+    gridRule p y
+    ∷ (fractionRules (reactorOf p x (y .fraction)) ++ tankRules p (settlingOf p (y .«return_ratio») (y .thickening)))
 
 -- document 01's "permitted": the candidate keeps the grid, the cover, E, V and both site limits
 unfoldable pub permitted : Plant → Concentrations → Candidate → Bool
-permitted p x y = keepsGrid p y && keepsNitrate p x y && keepsSolids p y && keepsSurface p y && keepsDepth p y
+permitted p x y = allKept (candidateRules p x y)
 
--- a candidate of accepted data: 6 to 10 in order, else its sheet
+-- what a verdict on the rules makes of a sheet
+unfoldable pub answerBy : Verdict → Sheet → Answer
+answerBy Verdict.Kept s = Answer.Designed s
+answerBy (Verdict.Broken n) s = Answer.Refused n
+
+-- a candidate of accepted data: the refusal of the first rule of 6 to 10 that it breaks, else its sheet
 unfoldable pub judge : Plant → Concentrations → Candidate → Answer
-judge p x y =
-    cond (keepsGrid p y)
-    (cond (keepsNitrate p x y)
-    (cond (keepsSolids p y)
-    (cond (keepsSurface p y)
-    (cond (keepsDepth p y) (Answer.Designed (sheetOf p x y)) (Answer.Refused Refusal.Depth))
-    (Answer.Refused Refusal.Surface))
-    (Answer.Refused Refusal.Solids))
-    (Answer.Refused Refusal.Nitrate))
-    (Answer.Refused Refusal.OffGrid)
+judge p x y = answerBy (verdict (candidateRules p x y)) (sheetOf p x y)
 
 -- what examining goes on to, once plant data and readings have their answer
 unfoldable pub judgeAccepted : Plant → Candidate → Acceptance → Answer
@@ -101,22 +98,6 @@ judgeAccepted p y (Acceptance.Accepted x) = judge p x y
 unfoldable pub examine : Plant → Readings → Candidate → Answer
 examine p r y = judgeAccepted p y (accept p r)
 
--- of the rules 6 to 10, each kept or not, n is the first that is broken
-abbrev pub FirstBroken : (grid nitrate solids surface depth : Bool) → Refusal → Type 0
-FirstBroken grid nitrate solids surface depth Refusal.PlantData = ⊥
-FirstBroken grid nitrate solids surface depth Refusal.NoNumber = ⊥
-FirstBroken grid nitrate solids surface depth Refusal.ReadingRange = ⊥
-FirstBroken grid nitrate solids surface depth Refusal.CodRatio = ⊥
-FirstBroken grid nitrate solids surface depth Refusal.NoDesign = ⊥
-FirstBroken grid nitrate solids surface depth Refusal.OffGrid = T (not grid)
-FirstBroken grid nitrate solids surface depth Refusal.Nitrate = T grid × T (not nitrate)
-FirstBroken grid nitrate solids surface depth Refusal.Solids = T grid × T nitrate × T (not solids)
-FirstBroken grid nitrate solids surface depth Refusal.Surface = T grid × T nitrate × T solids × T (not surface)
-FirstBroken grid nitrate solids surface depth Refusal.Depth = T grid × T nitrate × T solids × T surface × T (not depth)
-FirstBroken grid nitrate solids surface depth Refusal.ShortPage = ⊥
-
--- the refusal n is due: the data's own, or of accepted data the first rule that the candidate breaks
-abbrev pub Due : Plant → Candidate → Refusal → Acceptance → Type 0
-Due p y n (Acceptance.Refused m) = m ≡ n
-Due p y n (Acceptance.Accepted x) =
-    FirstBroken (keepsGrid p y) (keepsNitrate p x y) (keepsSolids p y) (keepsSurface p y) (keepsDepth p y) n
+-- all the rules that examining goes through, 1 to 4 and 6 to 10
+unfoldable pub examinationRules : Plant → Readings → Candidate → List Rule
+examinationRules p r y = dataRules p r ++ candidateRules p (valuesOf p r) y

@@ -1,21 +1,15 @@
--- Document 01, "Lab readings": from an f32's exact value or a head count to thousandths of mg/l, and what is accepted.
+-- Document 01, "Lab readings": from an f32's exact value or a head count to thousandths of mg/l, and each reading's range.
 -- Assumes nothing.
 use Prim.Native.Nat.{ℕ, _*_}
-use mathlib.Core.Bool.{Bool, true, cond, _&&_}
+use mathlib.Core.Bool.{Bool, true, _&&_}
 use lib.Dec.{ltb}
 use lib.Ieee.{Float, nan, inf, fin}
 use lib.Ieee.Nearest.{closest}
 use Rattle.rules.specs.Rounding.{up}
-use Rattle.rules.specs.PlantData.{within, plantInRange}
-use Rattle.rules.specs.declared.Plant.{Plant}
+use Rattle.rules.specs.PlantData.{within}
 use Rattle.rules.specs.declared.PrimarySettling.{PrimarySettling}
 use Rattle.rules.specs.declared.Parameter.{Parameter}
 use Rattle.rules.specs.declared.Reading.{Reading}
-use Rattle.rules.specs.declared.Readings.{Readings}
-use Rattle.rules.specs.declared.Concentrations.{Concentrations}
-use Rattle.rules.specs.declared.Refusal.{Refusal}
-use Rattle.rules.specs.declared.Converted.{Converted}
-use Rattle.rules.specs.declared.Acceptance.{Acceptance}
 
 -- an f32 is no number: not finite, or below zero. Minus zero is the number zero.
 unfoldable pub noNumber : Float → Bool
@@ -78,38 +72,6 @@ readingValue q s k (Reading.Heads n) = up (n * perHead k s * 100) q
 unfoldable pub readingInRange : ℕ → PrimarySettling → Parameter → Reading → Bool
 readingInRange q s k r = headsInRange r && resultInRange k (readingValue q s k r)
 
--- one reading: 2, then 3, else its thousandths
-unfoldable pub convert : ℕ → PrimarySettling → Parameter → Reading → Converted
-convert q s k r =
-    cond (readingNoNumber r) (Converted.Refused Refusal.NoNumber)
-    (cond (readingInRange q s k r) (Converted.Value (readingValue q s k r)) (Converted.Refused Refusal.ReadingRange))
-
 -- rule 4: 5 COD > 11 BOD
 unfoldable pub codRatioBroken : ℕ → ℕ → Bool
 codRatioBroken bod cod = ltb (11 * bod) (5 * cod)
-
--- the five readings in turn: the first refusal, then 4, else accepted
-unfoldable pub gather : Converted → Converted → Converted → Converted → Converted → Acceptance
-gather (Converted.Refused n) cod solids nitrogen phosphorus = Acceptance.Refused n
-gather (Converted.Value c) (Converted.Refused n) solids nitrogen phosphorus = Acceptance.Refused n
-gather (Converted.Value c) (Converted.Value o) (Converted.Refused n) nitrogen phosphorus = Acceptance.Refused n
-gather (Converted.Value c) (Converted.Value o) (Converted.Value x) (Converted.Refused n) phosphorus = Acceptance.Refused n
-gather (Converted.Value c) (Converted.Value o) (Converted.Value x) (Converted.Value n) (Converted.Refused m) = Acceptance.Refused m
-gather (Converted.Value c) (Converted.Value o) (Converted.Value x) (Converted.Value n) (Converted.Value p) =
-    cond (codRatioBroken c o) (Acceptance.Refused Refusal.CodRatio)
-    (Acceptance.Accepted (record { bod = c; cod = o; solids = x; nitrogen = n; phosphorus = p }))
-
--- the readings of a plant with the daily flow Q and the primary settling
-unfoldable pub acceptReadings : ℕ → PrimarySettling → Readings → Acceptance
-acceptReadings q s r =
-    gather
-    (convert q s Parameter.Bod (r .bod))
-    (convert q s Parameter.Cod (r .cod))
-    (convert q s Parameter.Solids (r .solids))
-    (convert q s Parameter.Nitrogen (r .nitrogen))
-    (convert q s Parameter.Phosphorus (r .phosphorus))
-
--- Document 01's "accepted": 1; then 2 and 3 for each reading in turn; then 4
-unfoldable pub accept : Plant → Readings → Acceptance
-accept p r =
-    cond (plantInRange p) (acceptReadings (p .flow) (p .«primary_settling») r) (Acceptance.Refused Refusal.PlantData)

@@ -3,17 +3,21 @@
 -- 10, and numbered answers; choosing; the listing; the worked cases. Beside them: the ranges as facts, the two nitrate
 -- columns, and what explains a candidate.
 pub mod Rounding
+pub mod Limits
 pub mod PlantData
 pub mod LabReadings
-pub mod NoneDue
+pub mod Rules
+pub mod Accepting
 pub mod AgeNitrate
-pub mod SludgeTanks
+pub mod ReactorSteps
+pub mod SettlingSteps
 pub mod AerationSteps
 pub mod Ranges
 pub mod Examining
 pub mod Answers
 pub mod Choosing
-pub mod TwoColumns
 pub mod Explaining
+pub mod Outcomes
+pub mod TwoColumns
 pub mod Listing
 pub mod Cases

@@ -3,6 +3,7 @@ use Prim.Native.Nat.{ℕ}
 use mathlib.Core.Bool.{Bool, true, _&&_}
 use mathlib.Core.List.{List, [], _∷_}
 use lib.Dec.{leb}
+use Rattle.rules.specs.Limits.{leastTemperature, mostTemperature}
 use Rattle.rules.specs.declared.Plant.{Plant}
 
 -- n lies in the range least..most, both ends included
@@ -29,8 +30,8 @@ plantFigures p =
     figure 1 100_000 (p .load)
     ∷ figure 1 200_000 (p .flow)
     ∷ figure 1 50_000 (p .«wet_weather_flow»)
-    ∷ figure 10 20 (p .«design_temperature»)
-    ∷ figure 10 20 (p .«aeration_temperature»)
+    ∷ figure leastTemperature mostTemperature (p .«design_temperature»)
+    ∷ figure leastTemperature mostTemperature (p .«aeration_temperature»)
     ∷ figure 50 200 (p .«sludge_volume_index»)
     ∷ figure 1_000 50_000 (p .«nitrate_target»)
     ∷ figure 0 100_000 (p .«phosphorus_target»)

@@ -1,10 +1,9 @@
--- The ranges of accepted data and of the grid as facts, for the contracts of the inner functions. That they are the
--- tests of PlantData, LabReadings and AgeNitrate, no more and no less, is proved in proofs/RangeFacts.antt.
--- Assumes nothing.
+-- The ranges of accepted data and of the grid as facts, for the contracts of the inner functions. Those of the plant data
+-- and of the grid are the tests of PlantData and AgeNitrate, no more and no less (proofs/RangeFacts.antt); accepted
+-- concentrations are in theirs (proofs/AcceptedData.antt). Assumes nothing.
 use Prim.Native.Nat.{ℕ, _≤_}
-use Rattle.rules.specs.AgeNitrate.{largestReturnRatio}
+use Rattle.rules.specs.Limits.{leastTemperature, mostTemperature, leastFraction, mostFraction, leastRatio, mostRatio, leastTime, mostTime, mostAge, mostNitrogen, mostRemoves, mostSludge, mostMass, leastSolids, mostSolids, mostSludgeVolume, mostSurface, leastDepth, mostDepth, mostSettlingVolume}
 use Rattle.rules.specs.declared.Plant.{Plant}
-use Rattle.rules.specs.declared.TankFlow.{TankFlow}
 use Rattle.rules.specs.declared.Concentrations.{Concentrations}
 use Rattle.rules.specs.declared.Candidate.{Candidate}
 use Rattle.rules.specs.declared.Reactor.{Reactor}
@@ -15,13 +14,26 @@ pub record Between (low high n : ℕ) : Type 0 where
   pub least : low ≤ n
   pub most : n ≤ high
 
+-- a temperature of the plant data; a fraction, a return ratio of either flow and a thickening time of the grid
+abbrev pub Temperature : ℕ → Type 0
+Temperature n = Between leastTemperature mostTemperature n
+
+abbrev pub GridFraction : ℕ → Type 0
+GridFraction n = Between leastFraction mostFraction n
+
+abbrev pub GridRatio : ℕ → Type 0
+GridRatio n = Between leastRatio mostRatio n
+
+abbrev pub GridTime : ℕ → Type 0
+GridTime n = Between leastTime mostTime n
+
 -- the plant and site figures are in their ranges
 pub record PlantRanges (p : Plant) : Type 0 where
   pub load : Between 1 100_000 (p .load)
   pub flow : Between 1 200_000 (p .flow)
   pub wet : Between 1 50_000 (p .«wet_weather_flow»)
-  pub design : Between 10 20 (p .«design_temperature»)
-  pub aeration : Between 10 20 (p .«aeration_temperature»)
+  pub design : Temperature (p .«design_temperature»)
+  pub aeration : Temperature (p .«aeration_temperature»)
   pub index : Between 50 200 (p .«sludge_volume_index»)
   pub nitrate : Between 1_000 50_000 (p .«nitrate_target»)
   pub phosphorus : Between 0 100_000 (p .«phosphorus_target»)
@@ -39,31 +51,26 @@ pub record ConcentrationRanges (x : Concentrations) : Type 0 where
   pub nitrogen : Between 0 500_000 (x .nitrogen)
   pub phosphorus : Between 0 100_000 (x .phosphorus)
 
--- a candidate is on the grid
-pub record GridRanges (tank : TankFlow) (y : Candidate) : Type 0 where
-  pub fraction : Between 200 500 (y .fraction)
-  pub ratio : Between 30 (largestReturnRatio tank) (y .«return_ratio»)
-  pub time : Between 20 25 (y .thickening)
-
--- the same with numerals at both ends, for either flow
+-- a candidate of the grid of either flow
 pub record OnGrid (y : Candidate) : Type 0 where
-  pub fraction : Between 200 500 (y .fraction)
-  pub ratio : Between 30 100 (y .«return_ratio»)
-  pub time : Between 20 25 (y .thickening)
+  pub fraction : GridFraction (y .fraction)
+  pub ratio : GridRatio (y .«return_ratio»)
+  pub time : GridTime (y .thickening)
 
 -- limits of a reactor's figures for accepted data and a fraction of the grid: round numbers that the arithmetic needs
 pub record ReactorBounds (r : Reactor) : Type 0 where
-  pub age : r .age ≤ 20_000
-  pub nitrified : r .nitrified ≤ 500_000
-  pub denitrified : r .denitrified ≤ 500_000
-  pub capacity : r .capacity ≤ 193
-  pub sludge : r .sludge ≤ 700_000_000
-  pub mass : r .mass ≤ 14_000_000
+  pub fraction : GridFraction (r .fraction)
+  pub age : r .age ≤ mostAge
+  pub nitrified : r .nitrified ≤ mostNitrogen
+  pub denitrified : r .denitrified ≤ mostNitrogen
+  pub removes : r .removes ≤ mostRemoves
+  pub sludge : r .sludge ≤ mostSludge
+  pub mass : r .mass ≤ mostMass
 
 -- limits of a settling tank's figures for accepted data, a return ratio and a thickening time of the grid
 pub record SettlingBounds (s : Settling) : Type 0 where
-  pub solids : Between 700 14_000 (s .solids)
-  pub volume : Between 1 679 (s .«sludge_volume»)
-  pub surface : Between 1 70_000 (s .surface)
-  pub depth : Between 3_000 20_000 (s .depth)
-  pub capacity : Between 1 1_400_000 (s .volume)
+  pub solids : Between leastSolids mostSolids (s .solids)
+  pub sludgeVolume : Between 1 mostSludgeVolume (s .«sludge_volume»)
+  pub surface : Between 1 mostSurface (s .surface)
+  pub depth : Between leastDepth mostDepth (s .depth)
+  pub volume : Between 1 mostSettlingVolume (s .volume)

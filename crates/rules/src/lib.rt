@@ -1,6 +1,23 @@
 // The types of document 01: plant data, lab readings, candidates, sheets and answers. The definitions over them are
 // in specs/. No function stands here.
 
+// The ends of the grid, and the figures' ends that the code names in several places.
+pub const LEAST_FRACTION: u32 = 200;
+
+pub const MOST_FRACTION: u32 = 500;
+
+pub const LEAST_RATIO: u32 = 30;
+
+pub const MOST_RATIO: u32 = 100;
+
+pub const LEAST_TIME: u32 = 20;
+
+pub const MOST_TIME: u32 = 25;
+
+pub const LEAST_TEMPERATURE: u32 = 10;
+
+pub const MOST_TEMPERATURE: u32 = 20;
+
 // Step-feed denitrification in two or in three steps.
 pub enum Steps {
     Two,
@@ -120,14 +137,16 @@ pub struct Candidate {
 
 // The figures that depend on the fraction alone.
 pub struct Reactor {
+    // f, thousandths
+    pub fraction: u64,
     // t, thousandths of a day
     pub age: u64,
     // W, nitrogen to nitrify, mg/m3
     pub nitrified: u64,
     // D, nitrate to denitrify, mg/m3
     pub denitrified: u64,
-    // K, g nitrate nitrogen per kg BOD
-    pub capacity: u64,
+    // K × C: what the cover compares, thousandths of the nitrate that the tank can remove
+    pub removes: u64,
     // S, g/d
     pub sludge: u64,
     // M, kg
@@ -192,10 +211,10 @@ pub enum Refusal {
     ShortPage,
 }
 
-// What converting one reading gives: its thousandths of mg/l, or a refusal.
-pub enum Converted {
-    Value(u64),
-    Refused(Refusal),
+// What a list of rules says: all of them are kept, or the refusal of the first that is broken.
+pub enum Verdict {
+    Kept,
+    Broken(Refusal),
 }
 
 // What plant data and readings get: document 01's "accepted", with the concentrations, or the first refusal due.
@@ -230,6 +249,8 @@ pub struct Explained {
     pub surface: u64,
     // H, mm
     pub depth: u64,
+    // the first of the rules 7 to 10 that is broken, or none
+    pub verdict: Verdict,
 }
 
 // What explaining a candidate answers: its figures, or one refusal of 1 to 4 and 6.

@@ -4,14 +4,15 @@ use mathlib.Core.Path.{_≡_}
 use Prim.Native.Nat.{ℕ, _+_, _-_, _*_, _≤_, max}
 use native.Mathlib.Omega.{arith}
 use Rattle.rules.specs.Rounding.{up}
-use Rattle.rules.specs.Ranges.{Between, PlantRanges, SettlingBounds}
-use Rattle.rules.specs.SludgeTanks.{thickeningRoot, bottomSludge, returnShare, returnSludge, mixedSolids, dilutedVolume, surfaceOverflowRate, settlingSurface, settlingDepth, settlingVolume, settlingOf}
+use Rattle.rules.specs.Limits.{leastSolids, mostSolids, leastDepth}
+use Rattle.rules.specs.Ranges.{Between, GridRatio, GridTime, PlantRanges, SettlingBounds}
+use Rattle.rules.specs.SettlingSteps.{thickeningRoot, bottomSludge, returnShare, returnSludge, mixedSolids, dilutedVolume, surfaceOverflowRate, settlingSurface, settlingDepth, settlingVolume, settlingOf}
 use Rattle.rules.specs.declared.Plant.{Plant}
 use Rattle.rules.specs.declared.Settling.{Settling}
 use Rattle.settling.proofs.Limits.{root-limits, bottom-index, bottom-limits, share-limits, returned-limits, mixed-half, mixed-limits, solids-index, diluted-limits, rate-limits, surface-limits, depth-limits, volume-limits}
 
 pub settling-bounds :
-    (p : Plant) (ratio thickening : ℕ) → PlantRanges p → Between 30 100 ratio → Between 20 25 thickening → SettlingBounds (settlingOf p ratio thickening)
+    (p : Plant) (ratio thickening : ℕ) → PlantRanges p → GridRatio ratio → GridTime thickening → SettlingBounds (settlingOf p ratio thickening)
 unfolding settlingOf
 settling-bounds p ratio thickening g r h =
     let index : ℕ = p .«sludge_volume_index» in
@@ -20,13 +21,13 @@ settling-bounds p ratio thickening g r h =
     let e : ℕ = mixedSolids returned ratio in
     let settled : Between 6_200 28_000 b = bottom-limits (root-limits h) (g .index) in
     let returning = returned-limits (share-limits (p .removal)) settled in
-    let mixed : Between 700 14_000 e = mixed-limits (returning .0) r in
+    let mixed : Between leastSolids mostSolids e = mixed-limits (returning .0) r in
     let half : 2 * e ≤ b = omega (arith, mixed-half returned r, returning .1) in
     let diluted = diluted-limits mixed (g .index) (solids-index e b index half (bottom-index index (root-limits h))) in
     let rate = rate-limits (p .tank) diluted in
     let surface = surface-limits (g .wet) rate in
     let depth = depth-limits (record { overflow = rate; returned = r; diluted = diluted; mixed = mixed; time = h; settled = settled; half = half }) in
-    record { solids = mixed; volume = diluted; surface = surface; depth = depth; capacity = volume-limits surface depth }
+    record { solids = mixed; sludgeVolume = diluted; surface = surface; depth = depth; volume = volume-limits surface depth }
 
 -- the tank's figures, each from those before it, are the definition's
 pub tank-figures :
@@ -50,6 +51,6 @@ pub depth-parts :
     loading ≡ up (rate * volume) 1000 →
     storage ≡ up (9 * loading * (100 + ratio)) 1000 →
     thickened ≡ up (solids * rate * (100 + ratio) * thickening) (1000 * bottom) →
-    max 3_000 (500 + separation + storage + thickened) ≡ settlingDepth rate ratio volume solids thickening bottom
+    max leastDepth (500 + separation + storage + thickened) ≡ settlingDepth rate ratio volume solids thickening bottom
 unfolding settlingDepth
 depth-parts rate ratio volume solids thickening bottom es el eg et = cc

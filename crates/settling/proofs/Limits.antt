@@ -6,7 +6,7 @@ use native.Mathlib.Nat.{mul-le-mul, mul-le-mul-left, mul-le-mul-right, le-of-mul
 use native.Mathlib.Omega.{arith}
 use Rattle.rules.specs.Rounding.{down, up}
 use Rattle.rules.specs.Ranges.{Between}
-use Rattle.rules.specs.SludgeTanks.{cubeRoot, thickeningRoot, bottomSludge, returnShare, returnSludge, mixedSolids, dilutedVolume, volumeLoading, largestOverflowRate, surfaceOverflowRate, settlingSurface, settlingDepth, settlingVolume}
+use Rattle.rules.specs.SettlingSteps.{cubeRoot, thickeningRoot, bottomSludge, returnShare, returnSludge, mixedSolids, dilutedVolume, volumeLoading, largestOverflowRate, surfaceOverflowRate, settlingSurface, settlingDepth, settlingVolume}
 use Rattle.rules.specs.declared.Removal.{Removal}
 use Rattle.rules.specs.declared.TankFlow.{TankFlow}
 use Rattle.rules.proofs.Quotients.{le-down, up-le}

@@ -4,7 +4,8 @@ use mathlib.Core.Path.{_≡_}
 use Prim.Native.Nat.{ℕ, _+_, _-_, _*_, min, max}
 use native.Mathlib.Omega.{arith}
 use Rattle.rules.specs.Rounding.{down, up}
-use Rattle.rules.specs.SludgeTanks.{rootFrom, cubeRoot, thickeningRoot, bottomSludge, returnShare, returnSludge, mixedSolids, dilutedVolume, volumeLoading, largestOverflowRate, surfaceOverflowRate, settlingSurface, settlingDepth, settlingVolume, settlingOf, reactorSolids}
+use Rattle.rules.specs.ReactorSteps.{reactorSolids}
+use Rattle.rules.specs.SettlingSteps.{rootFrom, cubeRoot, thickeningRoot, bottomSludge, returnShare, returnSludge, mixedSolids, dilutedVolume, volumeLoading, largestOverflowRate, surfaceOverflowRate, settlingSurface, settlingDepth, settlingVolume, settlingOf}
 use Rattle.rules.specs.Cases.{variant, caseA}
 use Rattle.rules.specs.declared.Process.{Process}
 use Rattle.rules.specs.declared.Steps.{Steps}

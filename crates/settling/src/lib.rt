@@ -1,15 +1,18 @@
-// The secondary settling tank and the volumes: what depends on the return ratio and the thickening time alone.
+// The secondary settling tank: what depends on the return ratio and the thickening time alone.
 ghost use mathlib.Core.Path.{_≡_};
 ghost use Prim.Native.Nat.{_*_, _≤_, _<_};
-ghost use Rattle.rules.specs.Ranges.{Between, PlantRanges, SettlingBounds};
-ghost use Rattle.rules.specs.SludgeTanks.{cubeRoot, thickeningRoot, bottomSludge, returnShare, returnSludge, mixedSolids, dilutedVolume, solidsKept, volumeLoading, largestOverflowRate, surfaceOverflowRate, settlingSurface, settlingDepth, settlingVolume, settlingOf, reactorSolids, reactorVolume};
+ghost use Rattle.rules.specs.Limits.{leastSolids, mostSolids, mostSludgeVolume, mostSurface, leastDepth, mostDepth, mostSettlingVolume};
+ghost use Rattle.rules.specs.Ranges.{Between, GridRatio, GridTime, PlantRanges, SettlingBounds};
+ghost use Rattle.rules.specs.SettlingSteps.{cubeRoot, thickeningRoot, bottomSludge, returnShare, returnSludge, mixedSolids, dilutedVolume, solidsKept, volumeLoading, largestOverflowRate, surfaceOverflowRate, settlingSurface, settlingDepth, settlingVolume, settlingOf};
+ghost use Rattle.rules.specs.Rules.{verdict};
+ghost use Rattle.rules.specs.Examining.{tankRules};
 ghost use Rattle.settling.specs.DepthRanges.{DepthRanges};
 use rules::Plant;
-use rules::Process;
+use rules::Refusal;
 use rules::Removal;
 use rules::Settling;
-use rules::Steps;
 use rules::TankFlow;
+use rules::Verdict;
 
 // The largest whole number whose cube is at most n, for a root below 16,384.
 fn cube_root(n: u64) -> u64
@@ -28,7 +31,7 @@ fn cube_root(n: u64) -> u64
 
 // c, the root that the bottom sludge rests on
 fn thickening_root(thickening: u64) -> u64
-    requires { ⌜ Between 20 25 thickening ⌝ }
+    requires { ⌜ GridTime thickening ⌝ }
     ensures { λ r. ⌜ (r ≡ thickeningRoot thickening) × Between 1_259 1_357 r ⌝ }
 {
     cube_root(thickening * 100_000_000)
@@ -36,7 +39,7 @@ fn thickening_root(thickening: u64) -> u64
 
 // B, bottom sludge, g/m3: one figure for each thickening time, whatever the return ratio.
 pub fn bottom_sludge(index: u32, thickening: u32) -> u64
-    requires { ⌜ Between 50 200 index × Between 20 25 thickening ⌝ }
+    requires { ⌜ Between 50 200 index × GridTime thickening ⌝ }
     ensures { λ r. ⌜ (r ≡ bottomSludge (thickeningRoot thickening) index) × Between 6_200 28_000 r ⌝ }
 {
     1000 * thickening_root(thickening as u64) / index as u64
@@ -63,25 +66,18 @@ fn return_sludge(removal: Removal, bottom: u64) -> u64
 
 // E, solids in the aeration tank, g/m3: at most half the return sludge's.
 fn mixed_solids(returned: u64, ratio: u64) -> u64
-    requires { ⌜ Between 3_100 28_000 returned × Between 30 100 ratio ⌝ }
-    ensures { λ r. ⌜ (r ≡ mixedSolids returned ratio) × Between 700 14_000 r × (2 * r ≤ returned) ⌝ }
+    requires { ⌜ Between 3_100 28_000 returned × GridRatio ratio ⌝ }
+    ensures { λ r. ⌜ (r ≡ mixedSolids returned ratio) × Between leastSolids mostSolids r × (2 * r ≤ returned) ⌝ }
 {
     ratio * returned / (100 + ratio)
 }
 
 // V, diluted sludge volume, l/m3
 fn diluted_volume(solids: u64, index: u64) -> u64
-    requires { ⌜ Between 700 14_000 solids × Between 50 200 index × (solids * index ≤ 678_500) ⌝ }
-    ensures { λ r. ⌜ (r ≡ dilutedVolume solids index) × Between 1 679 r ⌝ }
+    requires { ⌜ Between leastSolids mostSolids solids × Between 50 200 index × (solids * index ≤ 678_500) ⌝ }
+    ensures { λ r. ⌜ (r ≡ dilutedVolume solids index) × Between 1 mostSludgeVolume r ⌝ }
 {
     rounding::round_up(solids * index, 1000)
-}
-
-// Needed of a candidate: E of at least 1,000 and V of at most 600.
-pub fn solids_kept(solids: u64, volume: u64) -> bool
-    ensures { λ r. ⌜ r ≡ solidsKept solids volume ⌝ }
-{
-    1_000 <= solids && volume <= 600
 }
 
 // s, sludge volume surface loading rate, l/(m2 h)
@@ -106,7 +102,7 @@ fn largest_overflow_rate(tank: TankFlow) -> u64
 
 // q, surface overflow rate, mm/h
 fn surface_overflow_rate(tank: TankFlow, volume: u64) -> u64
-    requires { ⌜ Between 1 679 volume ⌝ }
+    requires { ⌜ Between 1 mostSludgeVolume volume ⌝ }
     ensures { λ r. ⌜ (r ≡ surfaceOverflowRate tank volume) × Between 720 2_000 r ⌝ }
 {
     let rate = 1000 * volume_loading(tank) / volume;
@@ -117,7 +113,7 @@ fn surface_overflow_rate(tank: TankFlow, volume: u64) -> u64
 // A, settling surface, m2
 fn settling_surface(wet: u64, rate: u64) -> u64
     requires { ⌜ Between 1 50_000 wet × Between 720 2_000 rate ⌝ }
-    ensures { λ r. ⌜ (r ≡ settlingSurface wet rate) × Between 1 70_000 r ⌝ }
+    ensures { λ r. ⌜ (r ≡ settlingSurface wet rate) × Between 1 mostSurface r ⌝ }
 {
     rounding::round_up(1000 * wet, rate)
 }
@@ -133,27 +129,26 @@ fn settling_depth(
     bottom: u64,
 ) -> u64
     requires { ⌜ DepthRanges rate ratio volume solids thickening bottom ⌝ }
-    ensures { λ r. ⌜ (r ≡ settlingDepth rate ratio volume solids thickening bottom) × Between 3_000 20_000 r ⌝ }
+    ensures { λ r. ⌜ (r ≡ settlingDepth rate ratio volume solids thickening bottom) × Between leastDepth mostDepth r ⌝ }
 {
     let separation = rounding::round_up(5 * rate * (100 + ratio), 1000 - volume);
     let loading = rounding::round_up(rate * volume, 1000);
     let storage = rounding::round_up(9 * loading * (100 + ratio), 1000);
     let thickened = rounding::round_up(solids * rate * (100 + ratio) * thickening, 1000 * bottom);
-    let depth = 500 + separation + storage + thickened;
-    if depth < 3_000 { 3_000 } else { depth }
+    rounding::larger(3_000, 500 + separation + storage + thickened)
 }
 
 // Settling volume, m3
 fn settling_volume(surface: u64, depth: u64) -> u64
-    requires { ⌜ Between 1 70_000 surface × Between 3_000 20_000 depth ⌝ }
-    ensures { λ r. ⌜ (r ≡ settlingVolume surface depth) × Between 1 1_400_000 r ⌝ }
+    requires { ⌜ Between 1 mostSurface surface × Between leastDepth mostDepth depth ⌝ }
+    ensures { λ r. ⌜ (r ≡ settlingVolume surface depth) × Between 1 mostSettlingVolume r ⌝ }
 {
     rounding::round_up(surface * depth, 1000)
 }
 
 // The settling tank's figures, from the bottom sludge of its thickening time.
 pub fn settling(plant: Plant, return_ratio: u32, thickening: u32, bottom: u64) -> Settling
-    requires { ⌜ PlantRanges plant × Between 30 100 «return_ratio» × Between 20 25 thickening ⌝ }
+    requires { ⌜ PlantRanges plant × GridRatio «return_ratio» × GridTime thickening ⌝ }
     requires { ⌜ bottom ≡ bottomSludge (thickeningRoot thickening) (plant .«sludge_volume_index») ⌝ }
     ensures { λ r. ⌜ (r ≡ settlingOf plant «return_ratio» thickening) × SettlingBounds r ⌝ }
 {
@@ -179,26 +174,27 @@ pub fn settling(plant: Plant, return_ratio: u32, thickening: u32, bottom: u64) -
     }
 }
 
-// E', the solids that the reactor, and nothing else, is sized with, g/m3
-pub fn reactor_solids(process: Process, solids: u64) -> u64
-    requires { ⌜ solids ≤ 14_000 ⌝ }
-    ensures { λ r. ⌜ (r ≡ reactorSolids process solids) × Between solids 16_800 r ⌝ }
+// Needed of a candidate: E of at least 1,000 and V of at most 600.
+fn solids_kept(solids: u64, volume: u64) -> bool
+    ensures { λ r. ⌜ r ≡ solidsKept solids volume ⌝ }
 {
-    match process {
-        Process::PreAnoxic => solids,
-        Process::Simultaneous => solids,
-        Process::Intermittent => solids,
-        Process::StepFeed(steps) => match steps {
-            Steps::Two => 114 * solids / 100,
-            Steps::Three => 120 * solids / 100,
-        },
-    }
+    1_000 <= solids && volume <= 600
 }
 
-// Reactor volume, m3
-pub fn reactor_volume(mass: u64, solids: u64) -> u64
-    requires { ⌜ (mass ≤ 14_000_000) × Between 1 16_800 solids ⌝ }
-    ensures { λ r. ⌜ (r ≡ reactorVolume mass solids) × (r ≤ 1000 * mass) ⌝ }
+// The verdict on the tank's rules 8 to 10.
+pub fn tank_verdict(plant: Plant, settling: Settling) -> Verdict
+    ensures { λ r. ⌜ r ≡ verdict (tankRules plant settling) ⌝ }
 {
-    rounding::round_up(1000 * mass, solids)
+    let solids = solids_kept(settling.solids, settling.sludge_volume);
+    let surface = settling.surface <= plant.site_surface as u64;
+    let depth = settling.depth <= plant.site_depth as u64;
+    verdicts::rule(
+        solids,
+        Refusal::Solids,
+        verdicts::rule(
+            surface,
+            Refusal::Surface,
+            verdicts::rule(depth, Refusal::Depth, Verdict::Kept),
+        ),
+    )
 }

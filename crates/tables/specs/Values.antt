@@ -7,7 +7,7 @@ use lib.ListN.{length, getD}
 use Rattle.rules.specs.Rounding.{down}
 use Rattle.rules.specs.Ranges.{Between}
 use Rattle.rules.specs.AgeNitrate.{safetyFactor, aerobicAge, sludgeAge, correctedAge, capacityUptake}
-use Rattle.rules.specs.SludgeTanks.{biomassDecay}
+use Rattle.rules.specs.ReactorSteps.{biomassDecay}
 use Rattle.tables.specs.declared.Row.{Row}
 use Rattle.tables.specs.declared.Row.the-variants.{Age, Production, Consumption}
 

@@ -6,7 +6,7 @@ use reference::{listing, Answer};
 
 pub const SHORT_PAGE: u32 = reference::refusal::SHORT_PAGE as u32;
 /// Bytes that explaining writes.
-pub const EXPLAIN_PAGE: usize = 48;
+pub const EXPLAIN_PAGE: usize = 56;
 
 /// The call's number and the bytes it writes at the start of the page.
 #[derive(Clone, Debug, PartialEq, Eq)]
@@ -46,8 +46,8 @@ pub fn choose(request: &[u8], page_length: usize) -> Outcome {
     }
 }
 
-/// The figures that the rules 7 to 10 ask of.
-fn judged_by(stages: &Stages) -> [u64; 6] {
+/// The figures that the rules 7 to 10 ask of, and the number of the first of them that is broken.
+fn judged_by(stages: &Stages, verdict: u8) -> [u64; 7] {
     [
         stages.nitrate.to_denitrify,
         stages.removable,
@@ -55,10 +55,11 @@ fn judged_by(stages: &Stages) -> [u64; 6] {
         stages.settling.diluted_volume,
         stages.settling.surface,
         stages.settling.depth,
+        u64::from(verdict),
     ]
 }
 
-/// Six 64-bit numbers, or a refusal and zeros.
+/// Seven 64-bit numbers, or a refusal and zeros.
 pub fn explain(request: &[u8], page_length: usize) -> Outcome {
     let data = match decode(request, EXAMINE_LENGTH) {
         Err(fault) => return nothing(fault),
@@ -68,8 +69,11 @@ pub fn explain(request: &[u8], page_length: usize) -> Outcome {
         return nothing(SHORT_PAGE);
     }
     let (number, figures) = match reference::explain(&data.plant, &data.readings, data.candidate) {
-        Err(number) => (u32::from(number), [0; 6]),
-        Ok(stages) => (0, judged_by(&stages)),
+        Err(number) => (u32::from(number), [0; 7]),
+        Ok(stages) => {
+            let answer = reference::examine(&data.plant, &data.readings, data.candidate);
+            (0, judged_by(&stages, answer.number()))
+        }
     };
     let written = figures.iter().flat_map(|f| f.to_le_bytes()).collect();
     Outcome { number, written }

@@ -1,7 +1,7 @@
-//! The page of `explain`: six 64-bit numbers, little-endian.
+//! The page of `explain`: seven 64-bit numbers, little-endian.
 
 /// Bytes that `explain` writes.
-pub const FIGURES_LENGTH: usize = 48;
+pub const FIGURES_LENGTH: usize = 56;
 
 /// The figures that a candidate is judged by.
 #[derive(Clone, Copy, Debug, PartialEq, Eq)]
@@ -18,6 +18,8 @@ pub struct Figures {
     pub surface: u64,
     /// Settling depth, mm
     pub depth: u64,
+    /// The number of the first of the rules 7 to 10 that is broken, or 0
+    pub verdict: u64,
 }
 
 impl Figures {
@@ -35,6 +37,7 @@ impl Figures {
             sludge_volume: figure(3),
             surface: figure(4),
             depth: figure(5),
+            verdict: figure(6),
         }
     }
 }

@@ -34,7 +34,7 @@ fn chooses_for_case_a() {
 fn explains_case_a() {
     let mut page = [UNTOUCHED; FIGURES_LENGTH];
     let (number, written) = explain(&case_a().to_examine(CASE_A_CANDIDATE), &mut page);
-    assert_eq!((number, written), (SHEET, 48));
+    assert_eq!((number, written), (SHEET, FIGURES_LENGTH as u64));
     let figures = Figures {
         nitrate_to_remove: 26_000,
         nitrate_removable: 26_000,
@@ -42,6 +42,7 @@ fn explains_case_a() {
         sludge_volume: 378,
         surface: 454,
         depth: 4_537,
+        verdict: 0,
     };
     assert_eq!(Figures::from_page(&page), figures);
 }
@@ -55,7 +56,7 @@ fn a_refused_explanation_is_zeros() {
     let mut page = [UNTOUCHED; FIGURES_LENGTH];
     assert_eq!(
         explain(&case_a().to_examine(candidate), &mut page),
-        (OFF_GRID, 48)
+        (OFF_GRID, FIGURES_LENGTH as u64)
     );
     assert_eq!(page, [0; FIGURES_LENGTH]);
 }
@@ -63,19 +64,25 @@ fn a_refused_explanation_is_zeros() {
 #[test]
 fn a_short_page_is_left_alone() {
     let request = case_a().to_examine(CASE_A_CANDIDATE);
-    let mut page = [UNTOUCHED; 47];
+    let mut page = [UNTOUCHED; 55];
     assert_eq!(examine(&request, &mut page), (SHORT_PAGE, 0));
     assert_eq!(explain(&request, &mut page), (SHORT_PAGE, 0));
-    assert_eq!(choose(&request[..CHOOSE_LENGTH], &mut page), (SHORT_PAGE, 0));
+    assert_eq!(
+        choose(&request[..CHOOSE_LENGTH], &mut page),
+        (SHORT_PAGE, 0)
+    );
     assert_eq!(examine(&request, &mut []), (SHORT_PAGE, 0));
-    assert_eq!(page, [UNTOUCHED; 47]);
+    assert_eq!(page, [UNTOUCHED; 55]);
 }
 
 #[test]
 fn malformed_requests_have_their_codes() {
     let mut page = [UNTOUCHED; PAGE_LENGTH];
     let good = case_a().to_examine(CASE_A_CANDIDATE);
-    assert_eq!(examine(&good[..EXAMINE_LENGTH - 1], &mut page), (BAD_LENGTH, 0));
+    assert_eq!(
+        examine(&good[..EXAMINE_LENGTH - 1], &mut page),
+        (BAD_LENGTH, 0)
+    );
     assert_eq!(examine(&[], &mut page), (BAD_LENGTH, 0));
     assert_eq!(choose(&good, &mut page), (BAD_LENGTH, 0));
     assert_eq!(explain(&good[..CHOOSE_LENGTH], &mut page), (BAD_LENGTH, 0));

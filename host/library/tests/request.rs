@@ -24,7 +24,7 @@ fn lengths_are_those_of_the_header_for_c() {
         let line = format!("#define PEWGULL_{call}_LENGTH {length}\n");
         assert!(header.contains(&line), "{line}");
     }
-    assert_eq!(library::FIGURES_LENGTH, 48);
+    assert_eq!(library::FIGURES_LENGTH, 56);
 }
 
 #[test]

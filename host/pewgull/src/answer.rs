@@ -45,7 +45,7 @@ pub fn explain(request: &Request, candidate: Candidate) -> Answer {
         Err(number) => return listed(number, format!("refused {number}\n").as_bytes()),
         Ok(figures) => figures,
     };
-    let verdict = examine(request, candidate).number;
+    let verdict = figures.verdict as u32;
     let lines = explanation::lines(request, &figures);
     let mut text: String = lines.iter().map(|line| line.text()).collect();
     text += &format!("verdict {verdict}\n");

@@ -68,6 +68,7 @@ pub fn lines(request: &Request, figures: &Figures) -> [Line; 6] {
         sludge_volume,
         surface,
         depth,
+        verdict: _,
     } = *figures;
     let site_surface = u64::from(request.site_surface);
     let site_depth = u64::from(request.site_depth);

@@ -8,27 +8,15 @@ use native.Mathlib.Omega.{arith}
 use Rattle.aeration.proofs.aeration_uptake.Statement.{statement}
 use Rattle.aeration.proofs.aeration_uptake.Tie as tie
 
-mul-round-up : tie.Need-mul-round-up
-mul-round-up c = search needs
-
-mul-round-up-2 : tie.Need-mul-round-up-2
-mul-round-up-2 c = search needs
-
-add-round-up : tie.Need-add-round-up
-add-round-up c = search needs
-
-round-up-requires : tie.Need-round-up-requires
-round-up-requires c κs = search needs
-
 add-result : tie.Need-add-result
 unfolding aerationUptake
 add-result c = omega (arith, uptake-most (c .before .args .corrected))
 
 returns : tie.Need-returns
 unfolding aerationUptake
-returns c = (ap (λ (n : ℕ). 560 + n) (c .round-up .ensures), record { least = omega arith; most = omega (arith, uptake-most (c .before .args .corrected), c .round-up .ensures) })
+returns c = (ap (λ (n : ℕ). 560 + n) (c .round-up .ensures), omega (arith, uptake-most (c .before .args .corrected), c .round-up .ensures))
 
 pub aeration-uptake-spec : {M : Type 1} → statement M
 aeration-uptake-spec =
     tie.close
-    (tie.spec mul-round-up mul-round-up-2 add-round-up round-up-requires add-result returns)
+    (tie.spec (λ c. search needs) (λ c. search needs) (λ c. search needs) (λ c κs. search needs) add-result returns)

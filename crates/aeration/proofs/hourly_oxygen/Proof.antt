@@ -9,17 +9,11 @@ use Rattle.aeration.proofs.hourly_oxygen.Tie as tie
 mul-round-up : tie.Need-mul-round-up
 mul-round-up c = omega (arith, mul-le-mul (c .pre .2) (c .pre .0))
 
-mul-round-up-2 : tie.Need-mul-round-up-2
-mul-round-up-2 c = search needs
-
 add-round-up : tie.Need-add-round-up
 add-round-up c = omega (arith, mul-le-mul (c .pre .2) (c .pre .0))
 
 round-up-requires : tie.Need-round-up-requires
 round-up-requires c κs = omega (arith, mul-le-mul (c .pre .2) (c .pre .0))
-
-mul-round-up-3 : tie.Need-mul-round-up-3
-mul-round-up-3 c = search needs
 
 mul-round-up-4 : tie.Need-mul-round-up-4
 mul-round-up-4 c = omega (arith, mul-le-mul (c .before .pre .3) (c .before .pre .1))
@@ -30,9 +24,6 @@ add-round-up-2 c = omega (arith, mul-le-mul (c .before .pre .3) (c .before .pre 
 round-up-requires-2 : tie.Need-round-up-requires-2
 round-up-requires-2 c κs = omega (arith, mul-le-mul (c .before .pre .3) (c .before .pre .1))
 
-larger-requires : tie.Need-larger-requires
-larger-requires c κs = search needs
-
 returns : tie.Need-returns
 unfolding hourlyOxygen
 returns c = let start = c .before .before .before in (rw (c .larger .ensures, c .before .round-up2 .ensures, c .before .before .round-up .ensures), omega (arith, c .larger .ensures, c .before .round-up2 .ensures, c .before .before .round-up .ensures, mul-le-mul (start .pre .2) (start .pre .0), mul-le-mul (start .pre .3) (start .pre .1)))
@@ -42,12 +33,12 @@ hourly-oxygen-spec =
     tie.close
     (tie.spec
     mul-round-up
-    mul-round-up-2
+    (λ c. search needs)
     add-round-up
     round-up-requires
-    mul-round-up-3
+    (λ c. search needs)
     mul-round-up-4
     add-round-up-2
     round-up-requires-2
-    larger-requires
+    (λ c κs. search needs)
     returns)

@@ -6,9 +6,6 @@ use native.Mathlib.Omega.{arith}
 use Rattle.aeration.proofs.nitrification_oxygen.Statement.{statement}
 use Rattle.aeration.proofs.nitrification_oxygen.Tie as tie
 
-mul-round-up : tie.Need-mul-round-up
-mul-round-up c = search needs
-
 mul-round-up-2 : tie.Need-mul-round-up-2
 mul-round-up-2 c = omega (arith, mul-le-mul (c .pre .0) (c .pre .1))
 
@@ -21,4 +18,4 @@ returns c = (c .round-up .ensures, omega (arith, mul-le-mul (c .before .pre .0) 
 
 pub nitrification-oxygen-spec : {M : Type 1} → statement M
 nitrification-oxygen-spec =
-    tie.close (tie.spec mul-round-up mul-round-up-2 round-up-requires returns)
+    tie.close (tie.spec (λ c. search needs) mul-round-up-2 round-up-requires returns)

@@ -9,9 +9,6 @@ use Rattle.aeration.proofs.oxygen_transfer.Tie as tie
 mul-round-up : tie.Need-mul-round-up
 mul-round-up c = omega (arith, mul-le-mul (c .pre .0 .most) (c .pre .1))
 
-sub-round-up : tie.Need-sub-round-up
-sub-round-up c = search needs
-
 round-up-requires : tie.Need-round-up-requires
 round-up-requires c κs = omega (arith, mul-le-mul (c .pre .0 .most) (c .pre .1))
 
@@ -20,4 +17,4 @@ unfolding oxygenTransfer
 returns c = c .round-up .ensures
 
 pub oxygen-transfer-spec : {M : Type 1} → statement M
-oxygen-transfer-spec = tie.close (tie.spec mul-round-up sub-round-up round-up-requires returns)
+oxygen-transfer-spec = tie.close (tie.spec mul-round-up (λ c. search needs) round-up-requires returns)

@@ -4,21 +4,6 @@ use Rattle.rules.specs.AerationSteps.{recirculation}
 use Rattle.aeration.proofs.recirculated.Statement.{statement}
 use Rattle.aeration.proofs.recirculated.Tie as tie
 
-enum-told : tie.Need-enum-told
-enum-told c = search needs
-
-returned-flow-requires : tie.Need-returned-flow-requires
-returned-flow-requires c κs = search needs
-
-enum-told-2 : tie.Need-enum-told-2
-enum-told-2 c = search needs
-
-enum-told-3 : tie.Need-enum-told-3
-enum-told-3 c = search needs
-
-enum-told-4 : tie.Need-enum-told-4
-enum-told-4 c = search needs
-
 returns : tie.Need-returns
 unfolding recirculation
 returns c = rw (c .before .enum-told .given .1) (c .returned-flow .ensures)
@@ -39,11 +24,11 @@ pub recirculated-spec : {M : Type 1} → statement M
 recirculated-spec =
     tie.close
     (tie.spec
-    enum-told
-    returned-flow-requires
-    enum-told-2
-    enum-told-3
-    enum-told-4
+    (λ c. search needs)
+    (λ c κs. search needs)
+    (λ c. search needs)
+    (λ c. search needs)
+    (λ c. search needs)
     returns
     returns-2
     returns-3

@@ -6,9 +6,6 @@ use native.Mathlib.Omega.{arith}
 use Rattle.aeration.proofs.saved_oxygen.Statement.{statement}
 use Rattle.aeration.proofs.saved_oxygen.Tie as tie
 
-mul-result : tie.Need-mul-result
-mul-result c = search needs
-
 mul-result-2 : tie.Need-mul-result-2
 mul-result-2 c = omega (arith, mul-le-mul (c .pre .0) (c .pre .1))
 
@@ -17,4 +14,4 @@ unfolding savedOxygen
 returns c = search needs
 
 pub saved-oxygen-spec : {M : Type 1} → statement M
-saved-oxygen-spec = tie.close (tie.spec mul-result mul-result-2 returns)
+saved-oxygen-spec = tie.close (tie.spec (λ c. search needs) mul-result-2 returns)

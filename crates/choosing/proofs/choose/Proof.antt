@@ -1,20 +1,10 @@
 -- `choose` meets its contract: a refusal of the data stands, accepted data are in range and the least design is chosen. Assumes nothing.
 use borrow.Author.Needs.{needs}
-use mathlib.Core.Path.{refl, sym, _∙_, subst}
-use Rattle.rules.specs.Choosing.{ChosenAccepted}
+use mathlib.Core.Path.{sym, _∙_}
 use Rattle.rules.proofs.NitrateColumns.{chosen-with-columns}
-use Rattle.readings.proofs.AcceptedRanges.{accepted-ranges}
+use Rattle.rules.proofs.AcceptedData.{accepted-ranges}
 use Rattle.choosing.proofs.choose.Statement.{statement}
 use Rattle.choosing.proofs.choose.Tie as tie
-
-accept-requires : tie.Need-accept-requires
-accept-requires c κs = search needs
-
-enum-known-refusal : tie.Need-enum-known-refusal
-enum-known-refusal c = search needs
-
-enum-known-concentrations : tie.Need-enum-known-concentrations
-enum-known-concentrations c = search needs
 
 choose-accepted-requires : tie.Need-choose-accepted-requires
 choose-accepted-requires c κs =
@@ -38,9 +28,9 @@ pub choose-spec : {M : Type 1} → statement M
 choose-spec =
     tie.close
     (tie.spec
-    accept-requires
-    enum-known-refusal
-    enum-known-concentrations
+    (λ c κs. search needs)
+    (λ c. search needs)
+    (λ c. search needs)
     choose-accepted-requires
     returns
     returns-2)

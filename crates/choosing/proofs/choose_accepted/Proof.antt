@@ -10,15 +10,6 @@ use Rattle.choosing.proofs.Turns.{limits}
 use Rattle.choosing.proofs.choose_accepted.Statement.{statement}
 use Rattle.choosing.proofs.choose_accepted.Tie as tie
 
-sweep-requires : tie.Need-sweep-requires
-sweep-requires c κs = search needs
-
-key-candidate-requires : tie.Need-key-candidate-requires
-key-candidate-requires c κs = search needs
-
-judge-requires : tie.Need-judge-requires
-judge-requires c κs = search needs
-
 returns : tie.Need-returns
 returns c =
     let first = c .before .before in
@@ -46,4 +37,4 @@ returns-2 c =
 
 pub choose-accepted-spec : {M : Type 1} → statement M
 choose-accepted-spec =
-    tie.close (tie.spec sweep-requires key-candidate-requires judge-requires returns returns-2)
+    tie.close (tie.spec (λ c κs. search needs) (λ c κs. search needs) (λ c κs. search needs) returns returns-2)

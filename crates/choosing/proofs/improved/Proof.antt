@@ -7,30 +7,6 @@ use Rattle.choosing.proofs.improved.Tie as tie
 returns : tie.Need-returns
 returns c = no-tank (c .before .before .args .best) (c .before .before .args .mass) (c .before .before .args .tank) (c .before .before .args .f) (c .before .before .args .r) (c .before .before .args .h) (c .if1 .taken)
 
-reactor-volume-requires : tie.Need-reactor-volume-requires
-reactor-volume-requires c κs = search needs
-
-add-total : tie.Need-add-total
-add-total c = search needs
-
-mul-key : tie.Need-mul-key
-mul-key c = search needs
-
-mul-key-2 : tie.Need-mul-key-2
-mul-key-2 c = search needs
-
-mul-key-3 : tie.Need-mul-key-3
-mul-key-3 c = search needs
-
-add-key : tie.Need-add-key
-add-key c = search needs
-
-add-key-2 : tie.Need-add-key-2
-add-key-2 c = search needs
-
-add-key-3 : tie.Need-add-key-3
-add-key-3 c = search needs
-
 returns-2 : tie.Need-returns-2
 returns-2 c =
     best-stands (c .before .before .before .before .before .args .best) (c .before .before .before .before .before .args .mass) (c .before .before .before .before .before .args .tank) (c .before .before .before .before .before .args .f) (c .before .before .before .before .before .args .r) (c .before .before .before .before .before .args .h)
@@ -52,13 +28,13 @@ improved-spec =
     tie.close
     (tie.spec
     returns
-    reactor-volume-requires
-    add-total
-    mul-key
-    mul-key-2
-    mul-key-3
-    add-key
-    add-key-2
-    add-key-3
+    (λ c κs. search needs)
+    (λ c. search needs)
+    (λ c. search needs)
+    (λ c. search needs)
+    (λ c. search needs)
+    (λ c. search needs)
+    (λ c. search needs)
+    (λ c. search needs)
     returns-2
     returns-3)

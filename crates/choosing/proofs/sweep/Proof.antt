@@ -8,44 +8,40 @@ use native.Mathlib.Nat.{le-refl}
 use borrow.Author.Needs.{needs}
 use native.Mathlib.Omega.{arith}
 use lib.ListN.{getD}
-use Rattle.rules.specs.Ranges.{Between}
+use Rattle.rules.specs.Limits.{leastFraction, mostFraction, leastRatio, leastTime, mostTime, mostReactorSolids, mostSettlingVolume}
+use Rattle.rules.specs.Ranges.{Between, GridFraction, GridTime}
 use Rattle.choosing.specs.declared.Tank.{Tank}
-use Rattle.choosing.specs.Keys.{noneYet, place, coveredMass, tankOf, improvedKey, Visited, LeastKey, Lightest}
+use Rattle.choosing.specs.Keys.{noneYet, place, firstPlace, tankOf, Visited, LeastKey, Lightest}
 use Rattle.choosing.proofs.Growing.{start}
 use Rattle.choosing.proofs.Choice.{whole}
 use Rattle.choosing.proofs.TableFilling.{noTank}
 use Rattle.choosing.proofs.Turns.{limits, mass-most, tank-most, later-fraction, fraction-left, candidate-turn, ratio-done, fraction-done}
 use Rattle.choosing.proofs.sweep.Statement.{statement}
 use Rattle.choosing.proofs.sweep.Tie as tie
-use Rattle.choosing.proofs.sweep.Reads as reads
-use Rattle.choosing.proofs.sweep.Lts as lts
 
 abbrev Inv-time : tie.InvT-time
 Inv-time plant concentrations last table best₀ lightest f mass r h₀ best h =
-    Between 20 26 h × LeastKey plant concentrations (Visited plant (place f r h)) best
+    Between leastTime (mostTime + 1) h × LeastKey plant concentrations (Visited plant (place f r h)) best
 
 abbrev μ-time : tie.MeasureT-time
-μ-time plant concentrations last table best₀ lightest f mass r h₀ best h = 26 - h
+μ-time plant concentrations last table best₀ lightest f mass r h₀ best h = mostTime + 1 - h
 
 abbrev Inv-ratio : tie.InvT-ratio
 Inv-ratio plant concentrations last table best₀ lightest f mass r₀ best r =
-    Between 30 (last + 1) r × LeastKey plant concentrations (Visited plant (place f r 20)) best
+    Between leastRatio (last + 1) r × LeastKey plant concentrations (Visited plant (place f r leastTime)) best
 
 abbrev μ-ratio : tie.MeasureT-ratio
 μ-ratio plant concentrations last table best₀ lightest f mass r₀ best r = last + 1 - r
 
 abbrev Inv-fraction : tie.InvT-fraction
 Inv-fraction plant concentrations last table best₀ lightest₀ f₀ best lightest f =
-    Between 200 501 f
-    × LeastKey plant concentrations (Visited plant (place f 30 20)) best
+    Between leastFraction (mostFraction + 1) f
+    × LeastKey plant concentrations (Visited plant (firstPlace f)) best
     × Lightest plant concentrations f lightest
     × (lightest ≤ noneYet)
 
 abbrev μ-fraction : tie.MeasureT-fraction
-μ-fraction plant concentrations last table best₀ lightest₀ f₀ best lightest f = 501 - f
-
-largest-return-ratio-requires : tie.Need-largest-return-ratio-requires Inv-time μ-time Inv-ratio μ-ratio Inv-fraction μ-fraction
-largest-return-ratio-requires c κs = search needs
+μ-fraction plant concentrations last table best₀ lightest₀ f₀ best lightest f = mostFraction + 1 - f
 
 tanks-requires : tie.Need-tanks-requires Inv-time μ-time Inv-ratio μ-ratio Inv-fraction μ-fraction
 tanks-requires c κs = (c .before .pre .0, omega arith)
@@ -55,14 +51,8 @@ fraction-holds c =
     let first = c .before .before in
     (omega arith, start (first .args .plant) (first .args .concentrations), inl refl, le-refl noneYet)
 
-covered-mass-requires : tie.Need-covered-mass-requires Inv-time μ-time Inv-ratio μ-ratio Inv-fraction μ-fraction
-covered-mass-requires c κs = (c .before .before .before .before .pre .0, c .before .before .before .before .pre .1, omega arith)
-
-add-f : tie.Need-add-f Inv-time μ-time Inv-ratio μ-ratio Inv-fraction μ-fraction
-add-f c = search needs
-
-fraction-less : tie.Need-fraction-less Inv-time μ-time Inv-ratio μ-ratio Inv-fraction μ-fraction
-fraction-less c = omega arith
+kept-mass-requires : tie.Need-kept-mass-requires Inv-time μ-time Inv-ratio μ-ratio Inv-fraction μ-fraction
+kept-mass-requires c κs = (c .before .before .before .before .pre .0, c .before .before .before .before .pre .1, omega arith)
 
 fraction-again : tie.Need-fraction-again Inv-time μ-time Inv-ratio μ-ratio Inv-fraction μ-fraction
 fraction-again c =
@@ -73,8 +63,8 @@ fraction-again c =
     let f = head .fraction .f in
     let l = head .fraction .lightest in (
       omega arith,
-      fraction-left plant concentrations (first .pre .0) (first .pre .1) f l (c .before .covered-mass .result) (head .fraction .best)
-          (sym (c .before .covered-mass .ensures))
+      fraction-left plant concentrations (first .pre .0) (first .pre .1) f l (c .before .kept-mass .result) (head .fraction .best)
+          (sym (c .before .kept-mass .ensures))
           (c .if1 .taken)
           (head .fraction .inv .2)
           (head .fraction .inv .1),
@@ -91,14 +81,11 @@ time-holds c = (omega arith, c .before .ratio .inv .1)
 tank-index-requires : tie.Need-tank-index-requires Inv-time μ-time Inv-ratio μ-ratio Inv-fraction μ-fraction
 tank-index-requires c κs = (omega arith, omega arith)
 
-mul-tank : tie.Need-mul-tank Inv-time μ-time Inv-ratio μ-ratio Inv-fraction μ-fraction
-mul-tank c = search needs
-
 array-copy-out-tank : tie.Need-array-copy-out-tank Inv-time μ-time Inv-ratio μ-ratio Inv-fraction μ-fraction
 array-copy-out-tank c = c .tank-index .ensures .1
 
 -- the present fraction's mass is that of a covered fraction
-below : (c : tie.Else1 Inv-time μ-time Inv-ratio μ-ratio Inv-fraction μ-fraction) → c .before .covered-mass .result < noneYet
+below : (c : tie.Else1 Inv-time μ-time Inv-ratio μ-ratio Inv-fraction μ-fraction) → c .before .kept-mass .result < noneYet
 below c = omega (arith, c .if1 .left, c .before .before .before .fraction .inv .3)
 
 -- the entry read is that of the present tank
@@ -121,22 +108,16 @@ improved-requires c κs =
     let mass = ratio .before .before in
     let first = mass .before .before .before .before .before in
     let most = tank-most (first .args .plant) (first .args .concentrations) (first .pre .0) (first .pre .1) (ratio .ratio .r) (at .before .before .time .h) (omega arith) (omega arith) in (
-      mass-most (first .args .plant) (first .args .concentrations) (first .pre .0) (first .pre .1) (mass .before .before .fraction .f) (mass .covered-mass .result)
+      mass-most (first .args .plant) (first .args .concentrations) (first .pre .0) (first .pre .1) (mass .before .before .fraction .f) (mass .kept-mass .result)
           (omega arith)
-          (sym (mass .covered-mass .ensures))
+          (sym (mass .kept-mass .ensures))
           (below (ratio .before)),
-      subst (λ (t : Tank). t .solids ≤ 16_800) (sym (entry at)) (most .solids),
-      subst (λ (t : Tank). t .volume ≤ 1_400_000) (sym (entry at)) (most .volume),
+      subst (λ (t : Tank). t .solids ≤ mostReactorSolids) (sym (entry at)) (most .solids),
+      subst (λ (t : Tank). t .volume ≤ mostSettlingVolume) (sym (entry at)) (most .volume),
       omega arith,
       omega arith,
       omega arith,
     )
-
-add-h : tie.Need-add-h Inv-time μ-time Inv-ratio μ-ratio Inv-fraction μ-fraction
-add-h c = search needs
-
-time-less : tie.Need-time-less Inv-time μ-time Inv-ratio μ-ratio Inv-fraction μ-fraction
-time-less c = omega arith
 
 time-again : tie.Need-time-again Inv-time μ-time Inv-ratio μ-ratio Inv-fraction μ-fraction
 time-again c =
@@ -145,9 +126,9 @@ time-again c =
     let mass = ratio .before .before in
     let flow = mass .before .before .before .before in
     let first = flow .before in
-    let f : Between 200 500 (mass .before .before .fraction .f) = omega (arith, mass .before .before .fraction .inv .0, mass .before .fraction-test) in
-    let r : Between 30 (flow .largest-return-ratio .result) (ratio .ratio .r) = omega (arith, ratio .ratio .inv .0, at .before .before .before .ratio-test) in
-    let h : Between 20 25 (at .before .before .time .h) = omega (arith, at .before .before .time .inv .0, at .before .time-test) in (
+    let f : GridFraction (mass .before .before .fraction .f) = omega (arith, mass .before .before .fraction .inv .0, mass .before .fraction-test) in
+    let r : Between leastRatio (flow .largest-return-ratio .result) (ratio .ratio .r) = omega (arith, ratio .ratio .inv .0, at .before .before .before .ratio-test) in
+    let h : GridTime (at .before .before .time .h) = omega (arith, at .before .before .time .inv .0, at .before .time-test) in (
       omega (arith, h),
       rw (c .improved .ensures, entry at)
           (candidate-turn (first .args .plant) (first .args .concentrations) (first .pre .0) (first .pre .1)
@@ -158,20 +139,14 @@ time-again c =
           f
           (ratio .ratio .r)
           (at .before .before .time .h)
-          (mass .covered-mass .result)
+          (mass .kept-mass .result)
           (at .before .before .time .best)
           r
           h
-          (sym (mass .covered-mass .ensures))
+          (sym (mass .kept-mass .ensures))
           (below (ratio .before))
           (at .before .before .time .inv .1)),
     )
-
-add-r : tie.Need-add-r Inv-time μ-time Inv-ratio μ-ratio Inv-fraction μ-fraction
-add-r c = search needs
-
-ratio-less : tie.Need-ratio-less Inv-time μ-time Inv-ratio μ-ratio Inv-fraction μ-fraction
-ratio-less c = omega arith
 
 -- the thickening times of the present return ratio are done
 times-done :
@@ -181,14 +156,14 @@ times-done :
     (c .before .before .before .before .before .before .before .before .before .before .args .concentrations)
     (Visited
     (c .before .before .before .before .before .before .before .before .before .before .args .plant)
-    (place (c .before .before .before .before .before .before .before .fraction .f) (c .before .before .before .ratio .r + 1) 20))
+    (place (c .before .before .before .before .before .before .before .fraction .f) (c .before .before .before .ratio .r + 1) leastTime))
     (c .before .time .best)
 times-done c =
     let ratio = c .before .before .before in
     let fraction = ratio .before .before .before .before in
     let flow = fraction .before .before in
     let first = flow .before in
-    let e : c .before .time .h ≡ 26 = omega (arith, c .before .time .inv .0) in
+    let e : c .before .time .h ≡ mostTime + 1 = omega (arith, c .before .time .inv .0) in
     ratio-done (first .args .plant) (first .args .concentrations) (first .pre .0) (first .pre .1)
     (flow .largest-return-ratio .result)
     (flow .largest-return-ratio .ensures .0)
@@ -204,12 +179,6 @@ times-done c =
 
 ratio-again : tie.Need-ratio-again Inv-time μ-time Inv-ratio μ-ratio Inv-fraction μ-fraction
 ratio-again c = (omega arith, times-done (c .before))
-
-add-f-2 : tie.Need-add-f-2 Inv-time μ-time Inv-ratio μ-ratio Inv-fraction μ-fraction
-add-f-2 c = search needs
-
-fraction-less-2 : tie.Need-fraction-less-2 Inv-time μ-time Inv-ratio μ-ratio Inv-fraction μ-fraction
-fraction-less-2 c = omega arith
 
 fraction-again-2 : tie.Need-fraction-again-2 Inv-time μ-time Inv-ratio μ-ratio Inv-fraction μ-fraction
 fraction-again-2 c =
@@ -230,14 +199,14 @@ fraction-again-2 c =
           (λ w.
           let e : ratio .ratio .r ≡ last + 1 = omega (arith, w .0, ratio .ratio .inv .0) in
           rw (w .1)
-          (subst (λ (n : ℕ). LeastKey plant concentrations (Visited plant (place f n 20)) (ratio .ratio .best)) e (ratio .ratio .inv .1)))
+          (subst (λ (n : ℕ). LeastKey plant concentrations (Visited plant (place f n leastTime)) (ratio .ratio .best)) e (ratio .ratio .inv .1)))
           (λ w.
           let e : ratio .ratio .r ≡ last = omega (arith, w .0, w .3) in
           rw (w .4)
-          (subst (λ (n : ℕ). LeastKey plant concentrations (Visited plant (place f (n + 1) 20)) (w .1 .best)) e
+          (subst (λ (n : ℕ). LeastKey plant concentrations (Visited plant (place f (n + 1) leastTime)) (w .1 .best)) e
           (times-done (record { before = record { before = record { before = ratio; ratio-test = w .0 }; time = w .1 }; time-test = w .2 }))))
           (c .ratio-test .came)),
-      inr (f, omega arith, omega arith, sym (mass .covered-mass .ensures)),
+      inr (f, omega arith, omega arith, sym (mass .kept-mass .ensures)),
       omega (arith, below (ratio .before)),
     )
 
@@ -246,9 +215,9 @@ returns c =
     let first = c .before .before .before .before in
     let plant = first .args .plant in
     let concentrations = first .args .concentrations in
-    let e : c .before .fraction .f ≡ 501 = omega (arith, c .before .fraction .inv .0) in
+    let e : c .before .fraction .f ≡ mostFraction + 1 = omega (arith, c .before .fraction .inv .0) in
     whole plant concentrations (limits plant concentrations (first .pre .0) (first .pre .1)) (c .before .fraction .best)
-    (subst (λ (n : ℕ). LeastKey plant concentrations (Visited plant (place n 30 20)) (c .before .fraction .best)) e (c .before .fraction .inv .1))
+    (subst (λ (n : ℕ). LeastKey plant concentrations (Visited plant (firstPlace n)) (c .before .fraction .best)) e (c .before .fraction .inv .1))
 
 pub sweep-spec : {M : Type 1} → statement M
 sweep-spec =
@@ -260,26 +229,26 @@ sweep-spec =
     μ-ratio
     Inv-fraction
     μ-fraction
-    largest-return-ratio-requires
+    (λ c κs. search needs)
     tanks-requires
     fraction-holds
-    covered-mass-requires
-    add-f
-    fraction-less
+    kept-mass-requires
+    (λ c. search needs)
+    (λ c. omega arith)
     fraction-again
     ratio-holds
     time-holds
     tank-index-requires
-    mul-tank
+    (λ c. search needs)
     array-copy-out-tank
     improved-requires
-    add-h
-    time-less
+    (λ c. search needs)
+    (λ c. omega arith)
     time-again
-    add-r
-    ratio-less
+    (λ c. search needs)
+    (λ c. omega arith)
     ratio-again
-    add-f-2
-    fraction-less-2
+    (λ c. search needs)
+    (λ c. omega arith)
     fraction-again-2
     returns)

@@ -1,55 +1,38 @@
 -- `tanks` meets its contract. Invariants: the tanks of the thickening times passed, and in the present one of the return
 -- ratios passed, are in the table. The measures are what is left of the two ranges. Assumes nothing.
-use mathlib.Core.Path.{_≡_, refl, sym, _∙_, subst, ap}
+use mathlib.Core.Path.{_≡_, refl, subst}
 use mathlib.Core.Logic.{⊎-elim}
 use Prim.Native.Nat.{ℕ, _+_, _-_}
 use borrow.Author.Needs.{needs}
 use native.Mathlib.Omega.{arith}
 use lib.ListN.{set}
+use Rattle.rules.specs.Limits.{leastRatio, leastTime, mostTime}
 use Rattle.rules.specs.Ranges.{Between}
 use Rattle.choosing.proofs.TableFilling.{FilledTo, turn, empty, entered, next-time, full}
 use Rattle.choosing.proofs.tanks.Statement.{statement}
 use Rattle.choosing.proofs.tanks.Tie as tie
 
 abbrev Inv-ratio : tie.InvT-ratio
-Inv-ratio plant last index table₀ h bottom r₀ table r = Between 30 (last + 1) r × FilledTo plant last (turn r h) table
+Inv-ratio plant last index table₀ h bottom r₀ table r = Between leastRatio (last + 1) r × FilledTo plant last (turn r h) table
 
 abbrev μ-ratio : tie.MeasureT-ratio
 μ-ratio plant last index table₀ h bottom r₀ table r = last + 1 - r
 
 abbrev Inv-time : tie.InvT-time
-Inv-time plant last index table₀ h₀ table h = Between 20 26 h × FilledTo plant last (turn 30 h) table
+Inv-time plant last index table₀ h₀ table h = Between leastTime (mostTime + 1) h × FilledTo plant last (turn leastRatio h) table
 
 abbrev μ-time : tie.MeasureT-time
-μ-time plant last index table₀ h₀ table h = 26 - h
+μ-time plant last index table₀ h₀ table h = mostTime + 1 - h
 
 time-holds : tie.Need-time-holds Inv-ratio μ-ratio Inv-time μ-time
 time-holds c = (omega arith, empty (c .args .plant) (c .args .last) (c .pre .1) _ refl)
-
-bottom-sludge-requires : tie.Need-bottom-sludge-requires Inv-ratio μ-ratio Inv-time μ-time
-bottom-sludge-requires c κs = search needs
-
-ratio-holds : tie.Need-ratio-holds Inv-ratio μ-ratio Inv-time μ-time
-ratio-holds c = search needs
 
 tank-entry-requires : tie.Need-tank-entry-requires Inv-ratio μ-ratio Inv-time μ-time
 tank-entry-requires c κs =
     ((c .before .before .before .before .before .pre .0, omega arith, omega arith), c .before .before .bottom-sludge .ensures .0)
 
-tank-index-requires : tie.Need-tank-index-requires Inv-ratio μ-ratio Inv-time μ-time
-tank-index-requires c κs = search needs
-
-mul-table : tie.Need-mul-table Inv-ratio μ-ratio Inv-time μ-time
-mul-table c = search needs
-
 array-set-from-table : tie.Need-array-set-from-table Inv-ratio μ-ratio Inv-time μ-time
 array-set-from-table c = c .tank-index .ensures .1
-
-add-r : tie.Need-add-r Inv-ratio μ-ratio Inv-time μ-time
-add-r c = search needs
-
-ratio-less : tie.Need-ratio-less Inv-ratio μ-ratio Inv-time μ-time
-ratio-less c = search needs
 
 -- the present tank is in the table
 stored :
@@ -67,12 +50,6 @@ stored c =
 
 ratio-again : tie.Need-ratio-again Inv-ratio μ-ratio Inv-time μ-time
 ratio-again c = (omega arith, stored (c .before))
-
-add-h : tie.Need-add-h Inv-ratio μ-ratio Inv-time μ-time
-add-h c = search needs
-
-time-less : tie.Need-time-less Inv-ratio μ-ratio Inv-time μ-time
-time-less c = search needs
 
 time-again : tie.Need-time-again Inv-ratio μ-ratio Inv-time μ-time
 time-again c =
@@ -98,9 +75,9 @@ time-again c =
 returns : tie.Need-returns Inv-ratio μ-ratio Inv-time μ-time
 returns c =
     let start = c .before .before in
-    let e : c .before .time .h ≡ 26 = omega arith in
+    let e : c .before .time .h ≡ mostTime + 1 = omega arith in
     full (start .args .plant) (start .args .last) (start .pre .1) (c .before .time .table)
-    (subst (λ (n : ℕ). FilledTo (start .args .plant) (start .args .last) (turn 30 n) (c .before .time .table)) e (c .before .time .inv .1))
+    (subst (λ (n : ℕ). FilledTo (start .args .plant) (start .args .last) (turn leastRatio n) (c .before .time .table)) e (c .before .time .inv .1))
 
 pub tanks-spec : {M : Type 1} → statement M
 tanks-spec =
@@ -111,16 +88,16 @@ tanks-spec =
     Inv-time
     μ-time
     time-holds
-    bottom-sludge-requires
-    ratio-holds
+    (λ c κs. search needs)
+    (λ c. search needs)
     tank-entry-requires
-    tank-index-requires
-    mul-table
+    (λ c κs. search needs)
+    (λ c. search needs)
     array-set-from-table
-    add-r
-    ratio-less
+    (λ c. search needs)
+    (λ c. search needs)
     ratio-again
-    add-h
-    time-less
+    (λ c. search needs)
+    (λ c. search needs)
     time-again
     returns)

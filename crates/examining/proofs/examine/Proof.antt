@@ -3,19 +3,10 @@
 use borrow.Author.Needs.{needs}
 use mathlib.Core.Path.{sym, _∙_}
 use Rattle.rules.specs.Examining.{judgeAccepted, examine}
-use Rattle.readings.proofs.AcceptedRanges.{accepted-ranges}
+use Rattle.rules.proofs.AcceptedData.{accepted-ranges}
 use Rattle.rules.proofs.NitrateColumns.{with-columns}
 use Rattle.examining.proofs.examine.Statement.{statement}
 use Rattle.examining.proofs.examine.Tie as tie
-
-accept-requires : tie.Need-accept-requires
-accept-requires c κs = search needs
-
-enum-known-refusal : tie.Need-enum-known-refusal
-enum-known-refusal c = search needs
-
-enum-known-concentrations : tie.Need-enum-known-concentrations
-enum-known-concentrations c = search needs
 
 judge-requires : tie.Need-judge-requires
 judge-requires c κs =
@@ -41,9 +32,9 @@ pub examine-spec : {M : Type 1} → statement M
 examine-spec =
     tie.close
     (tie.spec
-    accept-requires
-    enum-known-refusal
-    enum-known-concentrations
+    (λ c κs. search needs)
+    (λ c. search needs)
+    (λ c. search needs)
     judge-requires
     returns
     returns-2)

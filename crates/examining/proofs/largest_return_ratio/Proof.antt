@@ -5,12 +5,6 @@ use native.Mathlib.Omega.{arith}
 use Rattle.examining.proofs.largest_return_ratio.Statement.{statement}
 use Rattle.examining.proofs.largest_return_ratio.Tie as tie
 
-enum-told : tie.Need-enum-told
-enum-told c = search needs
-
-enum-told-2 : tie.Need-enum-told-2
-enum-told-2 c = search needs
-
 returns : tie.Need-returns
 unfolding largestReturnRatio
 returns c = (rw (c .enum-told .given .1), omega arith)
@@ -20,4 +14,4 @@ unfolding largestReturnRatio
 returns-2 c = (rw (c .enum-told2 .given .1), omega arith)
 
 pub largest-return-ratio-spec : {M : Type 1} → statement M
-largest-return-ratio-spec = tie.close (tie.spec enum-told enum-told-2 returns returns-2)
+largest-return-ratio-spec = tie.close (tie.spec (λ c. search needs) (λ c. search needs) returns returns-2)

@@ -4,18 +4,6 @@ use Rattle.rules.specs.AgeNitrate.{onGrid}
 use Rattle.examining.proofs.on_grid.Statement.{statement}
 use Rattle.examining.proofs.on_grid.Tie as tie
 
-largest-return-ratio-requires : tie.Need-largest-return-ratio-requires
-largest-return-ratio-requires c κs = search needs
-
-within-requires : tie.Need-within-requires
-within-requires c κs = search needs
-
-within-requires-2 : tie.Need-within-requires-2
-within-requires-2 c κs = search needs
-
-within-requires-3 : tie.Need-within-requires-3
-within-requires-3 c κs = search needs
-
 returns : tie.Need-returns
 unfolding onGrid
 returns c =
@@ -27,8 +15,8 @@ pub on-grid-spec : {M : Type 1} → statement M
 on-grid-spec =
     tie.close
     (tie.spec
-    largest-return-ratio-requires
-    within-requires
-    within-requires-2
-    within-requires-3
+    (λ c κs. search needs)
+    (λ c κs. search needs)
+    (λ c κs. search needs)
+    (λ c κs. search needs)
     returns)

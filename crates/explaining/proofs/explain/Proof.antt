@@ -2,18 +2,9 @@
 use borrow.Author.Needs.{needs}
 use mathlib.Core.Path.{sym, _∙_}
 use Rattle.rules.specs.Explaining.{explainAccepted, explain}
-use Rattle.readings.proofs.AcceptedRanges.{accepted-ranges}
+use Rattle.rules.proofs.AcceptedData.{accepted-ranges}
 use Rattle.explaining.proofs.explain.Statement.{statement}
 use Rattle.explaining.proofs.explain.Tie as tie
-
-accept-requires : tie.Need-accept-requires
-accept-requires c κs = search needs
-
-enum-known-refusal : tie.Need-enum-known-refusal
-enum-known-refusal c = search needs
-
-enum-known-concentrations : tie.Need-enum-known-concentrations
-enum-known-concentrations c = search needs
 
 explain-candidate-requires : tie.Need-explain-candidate-requires
 explain-candidate-requires c κs =
@@ -33,9 +24,9 @@ pub explain-spec : {M : Type 1} → statement M
 explain-spec =
     tie.close
     (tie.spec
-    accept-requires
-    enum-known-refusal
-    enum-known-concentrations
+    (λ c κs. search needs)
+    (λ c. search needs)
+    (λ c. search needs)
     explain-candidate-requires
     returns
     returns-2)

@@ -12,5 +12,5 @@ answer-number-spec =
     (λ c. search needs)
     (λ c. search needs)
     (λ c κs. search needs)
-    (λ c. search needs)
+    (λ c. rw (c .enum-told .given .1))
     (λ c. rw (c .before .before .answer .given .1) (c .refusal-number .ensures)))

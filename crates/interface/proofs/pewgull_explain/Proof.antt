@@ -31,7 +31,7 @@ returns-2 c =
     let page = decoded .before .before .before .args .page .now in
     request-answered _ _ candidateWords _ (decoded .decode .ensures) _ _ _ (held .«data» .given .1)
     (put .put-explanation .ensures
-    ∙ (λ i. figured (answer .explain .ensures i) page)
+    ∙ (λ i. figured (answer .explain .ensures .0 i) page)
     ∙ (λ i. explainedAt (answer .before .candidate .ensures i) page (held .«data» .given .0 .0)))
 
 pub pewgull-explain-spec : {M : Type 1} → statement M

@@ -6,12 +6,12 @@ use Rattle.interface.proofs.put.Tie as tie
 
 returns : tie.Need-returns
 returns c =
-    listed _ _ _ _ (c .before .before .before .before .before .before .write .ensures) _ _ (c .before .before .count .given .1)
+    listed _ _ _ _ (c .before .before .before .before .before .before .write .ensures .0) _ _ (c .before .before .count .given .1)
     (c .answer-number .ensures)
 
 returns-2 : tie.Need-returns-2
 returns-2 c =
-    unlisted _ _ _ _ (c .before .before .before .before .before .before .write .ensures) _ _ (c .before .before .refusal .given .1)
+    unlisted _ _ _ _ (c .before .before .before .before .before .before .write .ensures .0) _ _ (c .before .before .refusal .given .1)
     (c .refusal-number .ensures)
 
 pub put-spec : {M : Type 1} → statement M

@@ -16,14 +16,8 @@ Inv-tenth n rest₀ count₀ rest count = count + length (numeral rest) ≡ leng
 abbrev μ-tenth : tie.MeasureT-tenth
 μ-tenth n rest₀ count₀ rest count = rest
 
-tenth-holds : tie.Need-tenth-holds Inv-tenth μ-tenth
-tenth-holds c = omega arith
-
 add-count : tie.Need-add-count Inv-tenth μ-tenth
 add-count c = omega (arith, numeral-length (c .before .before .args .n) (search needs))
-
-tenth-less : tie.Need-tenth-less Inv-tenth μ-tenth
-tenth-less c = omega arith
 
 tenth-again : tie.Need-tenth-again Inv-tenth μ-tenth
 tenth-again c = omega (arith, length-more (c .before .tenth .rest) (c .tenth-test .taken))
@@ -33,4 +27,4 @@ returns c =
     omega (arith, length-one (c .before .tenth .rest) (c .tenth-test .left), numeral-length (c .before .before .args .n) (search needs))
 
 pub digit-count-spec : {M : Type 1} → statement M
-digit-count-spec = tie.close (tie.spec Inv-tenth μ-tenth tenth-holds add-count tenth-less tenth-again returns)
+digit-count-spec = tie.close (tie.spec Inv-tenth μ-tenth (λ c. omega arith) add-count (λ c. omega arith) tenth-again returns)

@@ -1,6 +1,6 @@
 -- `listing::figures` meets its contract: the array has the sheet's figures in their order. Assumes nothing.
 use mathlib.Core.Path.{refl}
-use Rattle.listing.specs.Forms.{sheetFigures}
+use Rattle.rules.specs.Answers.{sheetFigures}
 use Rattle.listing.proofs.figures.Statement.{statement}
 use Rattle.listing.proofs.figures.Tie as tie
 

@@ -50,13 +50,7 @@ unmarked c =
     at-byte (form (c .before)) (figures (c .before)) (i (c .before)) (k (c .before)) (c .before .before .form-test .taken) (c .if1 .left)
 
 form-holds : tie.Need-form-holds Inv-form μ-form
-form-holds c = (search needs, search needs, refl, search needs, refl)
-
-shared-slice-read-b : tie.Need-shared-slice-read-b Inv-form μ-form
-shared-slice-read-b c = search needs
-
-add-i : tie.Need-add-i Inv-form μ-form
-add-i c = omega arith
+form-holds c = (omega arith, search needs, refl, omega arith, refl)
 
 mul-put-number : tie.Need-mul-put-number Inv-form μ-form
 mul-put-number c = omega (arith, marked (c .before))
@@ -69,9 +63,6 @@ put-number-requires c κs = omega (arith, marked (c .before .before))
 
 add-k : tie.Need-add-k Inv-form μ-form
 add-k c = omega (arith, marked (c .before .before .before .before .before))
-
-form-less : tie.Need-form-less Inv-form μ-form
-form-less c = omega arith
 
 form-again : tie.Need-form-again Inv-form μ-form
 form-again c =
@@ -94,9 +85,6 @@ slice-write-page c = omega (arith, unmarked c)
 
 add-at : tie.Need-add-at Inv-form μ-form
 add-at c = omega (arith, unmarked c)
-
-form-less-2 : tie.Need-form-less-2 Inv-form μ-form
-form-less-2 c = omega arith
 
 form-again-2 : tie.Need-form-again-2 Inv-form μ-form
 form-again-2 c =
@@ -127,17 +115,17 @@ fill-spec =
     Inv-form
     μ-form
     form-holds
-    shared-slice-read-b
-    add-i
+    (λ c. search needs)
+    (λ c. omega arith)
     mul-put-number
     shared-slice-read-put-number
     put-number-requires
     add-k
-    form-less
+    (λ c. omega arith)
     form-again
     slice-write-page
     add-at
-    form-less-2
+    (λ c. omega arith)
     form-again-2
     same-length
     returns)

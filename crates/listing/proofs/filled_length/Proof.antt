@@ -45,41 +45,17 @@ unmarked : (c : tie.Else1 Inv-byte μ-byte) → AtByte (form (c .before)) (figur
 unmarked c =
     at-byte (form (c .before)) (figures (c .before)) (i (c .before)) (k (c .before)) (c .before .before .byte-test .taken) (c .if1 .left)
 
-byte-holds : tie.Need-byte-holds Inv-byte μ-byte
-byte-holds c = omega arith
-
-shared-slice-read-b : tie.Need-shared-slice-read-b Inv-byte μ-byte
-shared-slice-read-b c = search needs
-
-add-i : tie.Need-add-i Inv-byte μ-byte
-add-i c = omega arith
-
 mul-digit-count : tie.Need-mul-digit-count Inv-byte μ-byte
 mul-digit-count c = omega (arith, marked c)
 
 shared-slice-read-digit-count : tie.Need-shared-slice-read-digit-count Inv-byte μ-byte
 shared-slice-read-digit-count c = omega (arith, marked (c .before))
 
-digit-count-requires : tie.Need-digit-count-requires Inv-byte μ-byte
-digit-count-requires c κs = search needs
-
-add-count : tie.Need-add-count Inv-byte μ-byte
-add-count c = omega arith
-
 add-k : tie.Need-add-k Inv-byte μ-byte
 add-k c = omega (arith, marked (c .before .before))
 
-byte-less : tie.Need-byte-less Inv-byte μ-byte
-byte-less c = omega arith
-
 byte-again : tie.Need-byte-again Inv-byte μ-byte
 byte-again c = omega (arith, marked (c .before .before))
-
-add-count-2 : tie.Need-add-count-2 Inv-byte μ-byte
-add-count-2 c = omega arith
-
-byte-less-2 : tie.Need-byte-less-2 Inv-byte μ-byte
-byte-less-2 c = omega arith
 
 byte-again-2 : tie.Need-byte-again-2 Inv-byte μ-byte
 byte-again-2 c = omega (arith, unmarked c)
@@ -96,17 +72,17 @@ filled-length-spec =
     (tie.spec
     Inv-byte
     μ-byte
-    byte-holds
-    shared-slice-read-b
-    add-i
+    (λ c. omega arith)
+    (λ c. search needs)
+    (λ c. omega arith)
     mul-digit-count
     shared-slice-read-digit-count
-    digit-count-requires
-    add-count
+    (λ c κs. search needs)
+    (λ c. omega arith)
     add-k
-    byte-less
+    (λ c. omega arith)
     byte-again
-    add-count-2
-    byte-less-2
+    (λ c. omega arith)
+    (λ c. omega arith)
     byte-again-2
     returns)

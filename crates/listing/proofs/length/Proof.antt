@@ -4,38 +4,15 @@ use native.Mathlib.Omega.{arith}
 use borrow.Author.Needs.{needs}
 use lib.ListN.{length}
 use Rattle.rules.specs.Listing.{text}
-use Rattle.listing.specs.Forms.{marks, sheetFigures}
+use Rattle.rules.specs.Answers.{sheetFigures}
+use Rattle.listing.specs.Forms.{marks}
 use Rattle.listing.proofs.Listed.{formed, sheetLabels, sheetForm, refusedForm, sheet-filled, refused-filled}
 use Rattle.listing.proofs.length.Statement.{statement}
 use Rattle.listing.proofs.length.Tie as tie
 
-enum-known-answer : tie.Need-enum-known-answer
-enum-known-answer c = search needs
-
-slice-aggregate-filled-length : tie.Need-slice-aggregate-filled-length
-slice-aggregate-filled-length c = search needs
-
-figures-requires : tie.Need-figures-requires
-figures-requires c κs = search needs
-
-slice-aggregate-filled-length-2 : tie.Need-slice-aggregate-filled-length-2
-slice-aggregate-filled-length-2 c = search needs
-
 filled-length-requires : tie.Need-filled-length-requires
 unfolding marks sheetFigures
 filled-length-requires c κs = omega (arith, ap length (c .before .figures .ensures))
-
-enum-known-answer-2 : tie.Need-enum-known-answer-2
-enum-known-answer-2 c = search needs
-
-slice-aggregate-filled-length-3 : tie.Need-slice-aggregate-filled-length-3
-slice-aggregate-filled-length-3 c = search needs
-
-refusal-number-requires : tie.Need-refusal-number-requires
-refusal-number-requires c κs = search needs
-
-slice-aggregate-filled-length-4 : tie.Need-slice-aggregate-filled-length-4
-slice-aggregate-filled-length-4 c = search needs
 
 filled-length-requires-2 : tie.Need-filled-length-requires-2
 unfolding marks
@@ -57,15 +34,15 @@ pub length-spec : {M : Type 1} → statement M
 length-spec =
     tie.close
     (tie.spec
-    enum-known-answer
-    slice-aggregate-filled-length
-    figures-requires
-    slice-aggregate-filled-length-2
+    (λ c. search needs)
+    (λ c. search needs)
+    (λ c κs. search needs)
+    (λ c. search needs)
     filled-length-requires
-    enum-known-answer-2
-    slice-aggregate-filled-length-3
-    refusal-number-requires
-    slice-aggregate-filled-length-4
+    (λ c. search needs)
+    (λ c. search needs)
+    (λ c κs. search needs)
+    (λ c. search needs)
     filled-length-requires-2
     returns
     returns-2)

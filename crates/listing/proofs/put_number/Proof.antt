@@ -39,12 +39,6 @@ Inv-digit page₀ at n end rest₀ place₀ page rest place =
 abbrev μ-digit : tie.MeasureT-digit
 μ-digit page₀ at n end rest₀ place₀ page rest place = rest
 
-digit-count-requires : tie.Need-digit-count-requires Inv-digit μ-digit
-digit-count-requires c κs = search needs
-
-add-end : tie.Need-add-end Inv-digit μ-digit
-add-end c = search needs
-
 sub-place : tie.Need-sub-place Inv-digit μ-digit
 sub-place c = omega (arith, numeral-nonempty (c .before .before .args .n))
 
@@ -53,22 +47,10 @@ digit-holds c =
     let l : 1 ≤ length (numeral (c .before .before .args .n)) = numeral-nonempty (c .before .before .args .n) in
     (omega arith, omega arith, refl, refl)
 
-cast-page : tie.Need-cast-page Inv-digit μ-digit
-cast-page c = search needs
-
-add-page : tie.Need-add-page Inv-digit μ-digit
-add-page c = search needs
-
-slice-write-page : tie.Need-slice-write-page Inv-digit μ-digit
-slice-write-page c = search needs
-
 sub-place-2 : tie.Need-sub-place-2 Inv-digit μ-digit
 sub-place-2 c =
     let d = c .before .digit in
     omega (arith, length-more (d .rest) (c .digit-test .taken), numeral-nonempty (d .rest / 10))
-
-digit-less : tie.Need-digit-less Inv-digit μ-digit
-digit-less c = omega arith
 
 digit-again : tie.Need-digit-again Inv-digit μ-digit
 digit-again c =
@@ -81,15 +63,6 @@ digit-again c =
       turn (d .page) (c .before .before .before .before .args .at) (d .rest) (d .place) (c .digit-test .taken) (d .inv .0) (d .inv .1)
           ∙ d .inv .3,
     )
-
-cast-page-2 : tie.Need-cast-page-2 Inv-digit μ-digit
-cast-page-2 c = search needs
-
-add-page-2 : tie.Need-add-page-2 Inv-digit μ-digit
-add-page-2 c = search needs
-
-slice-write-page-2 : tie.Need-slice-write-page-2 Inv-digit μ-digit
-slice-write-page-2 c = search needs
 
 same-length : tie.Need-same-length Inv-digit μ-digit
 same-length c = simp length-set (c .before .digit .inv .2)
@@ -108,18 +81,18 @@ put-number-spec =
     (tie.spec
     Inv-digit
     μ-digit
-    digit-count-requires
-    add-end
+    (λ c κs. search needs)
+    (λ c. search needs)
     sub-place
     digit-holds
-    cast-page
-    add-page
-    slice-write-page
+    (λ c. search needs)
+    (λ c. search needs)
+    (λ c. search needs)
     sub-place-2
-    digit-less
+    (λ c. omega arith)
     digit-again
-    cast-page-2
-    add-page-2
-    slice-write-page-2
+    (λ c. search needs)
+    (λ c. search needs)
+    (λ c. search needs)
     same-length
     returns)

@@ -5,17 +5,8 @@ use Rattle.listing.proofs.Outcomes.{too-long, fits}
 use Rattle.listing.proofs.write.Statement.{statement}
 use Rattle.listing.proofs.write.Tie as tie
 
-length-requires : tie.Need-length-requires
-length-requires c κs = search needs
-
 returns : tie.Need-returns
 returns c = too-long _ _ (omega arith)
-
-put-listing-requires : tie.Need-put-listing-requires
-put-listing-requires c κs = search needs
-
-same-length : tie.Need-same-length
-same-length c = search needs
 
 returns-2 : tie.Need-returns-2
 returns-2 c =
@@ -23,4 +14,4 @@ returns-2 c =
 
 pub write-spec : {M : Type 1} → statement M
 write-spec =
-    tie.close (tie.spec length-requires returns put-listing-requires same-length returns-2)
+    tie.close (tie.spec (λ c κs. search needs) returns (λ c κs. search needs) (λ c. search needs) returns-2)

@@ -2,19 +2,10 @@
 use mathlib.Core.Path.{ap}
 use borrow.Author.Needs.{needs}
 use native.Mathlib.Omega.{arith}
-use Rattle.rules.specs.SludgeTanks.{bottomSludge}
+use Rattle.rules.specs.SettlingSteps.{bottomSludge}
 use Rattle.settling.proofs.Limits.{bottom-limits}
 use Rattle.settling.proofs.bottom_sludge.Statement.{statement}
 use Rattle.settling.proofs.bottom_sludge.Tie as tie
-
-thickening-root-requires : tie.Need-thickening-root-requires
-thickening-root-requires c κs = search needs
-
-mul-result : tie.Need-mul-result
-mul-result c = omega arith
-
-div-result : tie.Need-div-result
-div-result c = search needs
 
 returns : tie.Need-returns
 unfolding bottomSludge
@@ -24,4 +15,4 @@ returns c = (
 )
 
 pub bottom-sludge-spec : {M : Type 1} → statement M
-bottom-sludge-spec = tie.close (tie.spec thickening-root-requires mul-result div-result returns)
+bottom-sludge-spec = tie.close (tie.spec (λ c κs. search needs) (λ c. omega arith) (λ c. search needs) returns)

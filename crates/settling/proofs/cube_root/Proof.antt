@@ -19,9 +19,6 @@ below c =
     let l : c .search .c < 16_384 = cube-lt (c .search .c) 16_384 (omega arith) in
     omega arith
 
-search-holds : tie.Need-search-holds Inv-search μ-search
-search-holds c = omega arith
-
 add-next : tie.Need-add-next Inv-search μ-search
 add-next c = omega (arith, below c)
 
@@ -34,12 +31,9 @@ mul-if1-2 c = omega (arith, mul-le-mul (mul-le-mul (below c) (below c)) (below c
 search-less : tie.Need-search-less Inv-search μ-search
 search-less c = omega (arith, below (c .before))
 
-search-again : tie.Need-search-again Inv-search μ-search
-search-again c = omega arith
-
 returns : tie.Need-returns Inv-search μ-search
 returns c = cube-root-at (c .before .before .args .n) (c .before .search .c) (omega arith)
 
 pub cube-root-spec : {M : Type 1} → statement M
 cube-root-spec =
-    tie.close (tie.spec Inv-search μ-search search-holds add-next mul-if1 mul-if1-2 search-less search-again returns)
+    tie.close (tie.spec Inv-search μ-search (λ c. omega arith) add-next mul-if1 mul-if1-2 search-less (λ c. omega arith) returns)

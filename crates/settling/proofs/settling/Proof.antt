@@ -10,12 +10,6 @@ use Rattle.settling.proofs.Bounds.{settling-bounds, tank-figures}
 use Rattle.settling.proofs.settling.Statement.{statement}
 use Rattle.settling.proofs.settling.Tie as tie
 
-cast-index : tie.Need-cast-index
-cast-index c = search needs
-
-cast-wet : tie.Need-cast-wet
-cast-wet c = search needs
-
 -- the bottom sludge, and its product with the index, by the definition that the caller names
 settled : (c : tie.Start) → Between 6_200 28_000 (c .args .bottom)
 settled c = known (c .pre .1) (bottom-limits (root-limits (c .pre .0 .2)) (c .pre .0 .0 .index)) .1
@@ -26,9 +20,6 @@ index-product c = rw (c .pre .1) (bottom-index (c .args .plant .«sludge_volume_
 return-sludge-requires : tie.Need-return-sludge-requires
 return-sludge-requires c κs = settled (c .before .before)
 
-mixed-solids-requires : tie.Need-mixed-solids-requires
-mixed-solids-requires c κs = search needs
-
 diluted-volume-requires : tie.Need-diluted-volume-requires
 diluted-volume-requires c κs =
     let start = c .before .before .before .before in (
@@ -36,12 +27,6 @@ diluted-volume-requires c κs =
       start .pre .0 .0 .index,
       solids-index _ _ _ (omega (arith, c .mixed-solids .ensures .2, c .before .return-sludge .ensures .2)) (index-product start),
     )
-
-surface-overflow-rate-requires : tie.Need-surface-overflow-rate-requires
-surface-overflow-rate-requires c κs = search needs
-
-settling-surface-requires : tie.Need-settling-surface-requires
-settling-surface-requires c κs = search needs
 
 settling-depth-requires : tie.Need-settling-depth-requires
 settling-depth-requires c κs =
@@ -55,9 +40,6 @@ settling-depth-requires c κs =
       settled = settled start;
       half = omega (arith, c .before .before .before .mixed-solids .ensures .2, c .before .before .before .before .return-sludge .ensures .2);
     }
-
-settling-volume-requires : tie.Need-settling-volume-requires
-settling-volume-requires c κs = search needs
 
 returns : tie.Need-returns
 returns c =
@@ -84,13 +66,13 @@ pub settling-spec : {M : Type 1} → statement M
 settling-spec =
     tie.close
     (tie.spec
-    cast-index
-    cast-wet
+    (λ c. search needs)
+    (λ c. search needs)
     return-sludge-requires
-    mixed-solids-requires
+    (λ c κs. search needs)
     diluted-volume-requires
-    surface-overflow-rate-requires
-    settling-surface-requires
+    (λ c κs. search needs)
+    (λ c κs. search needs)
     settling-depth-requires
-    settling-volume-requires
+    (λ c κs. search needs)
     returns)

@@ -1,27 +1,18 @@
 -- `settling::settling_depth` meets its contract: its parts are the definition's, and each part and each product on the
 -- way has a law for its limit. Assumes nothing.
-use mathlib.Core.Path.{_≡_}
+use mathlib.Core.Path.{_≡_, _∙_}
 use Prim.Native.Nat.{_+_, _≤_, max}
 use borrow.Author.Needs.{needs}
 use native.Mathlib.Nat.{mul-le-mul}
 use native.Mathlib.Omega.{arith}
-use Rattle.rules.specs.SludgeTanks.{settlingDepth}
+use Rattle.rules.specs.SettlingSteps.{settlingDepth}
 use Rattle.settling.proofs.Limits.{known, flow-product, separation-most, loading-product, storage-product, thickening-product, thickening-most, depth-limits}
 use Rattle.settling.proofs.Bounds.{depth-parts}
 use Rattle.settling.proofs.settling_depth.Statement.{statement}
 use Rattle.settling.proofs.settling_depth.Tie as tie
 
-mul-round-up : tie.Need-mul-round-up
-mul-round-up c = search needs
-
-add-round-up : tie.Need-add-round-up
-add-round-up c = search needs
-
 mul-round-up-2 : tie.Need-mul-round-up-2
 mul-round-up-2 c = omega (arith, flow-product (c .pre))
-
-sub-round-up : tie.Need-sub-round-up
-sub-round-up c = search needs
 
 round-up-requires : tie.Need-round-up-requires
 round-up-requires c κs = omega (arith, flow-product (c .pre))
@@ -39,9 +30,6 @@ loading c = omega (arith, loading-product (c .before .before .pre))
 mul-round-up-4 : tie.Need-mul-round-up-4
 mul-round-up-4 c = omega (arith, loading c)
 
-add-round-up-2 : tie.Need-add-round-up-2
-add-round-up-2 c = search needs
-
 mul-round-up-5 : tie.Need-mul-round-up-5
 mul-round-up-5 c = omega (arith, storage-product (c .before .before .pre) (c .round-up2 .result) (loading c))
 
@@ -51,17 +39,11 @@ round-up-requires-3 c κs = omega (arith, storage-product (c .before .before .pr
 mul-round-up-6 : tie.Need-mul-round-up-6
 mul-round-up-6 c = omega (arith, mul-le-mul (c .before .before .before .pre .mixed .most) (c .before .before .before .pre .overflow .most))
 
-add-round-up-3 : tie.Need-add-round-up-3
-add-round-up-3 c = search needs
-
 mul-round-up-7 : tie.Need-mul-round-up-7
 mul-round-up-7 c = omega (arith, mul-le-mul (c .before .before .before .pre .mixed .most) (flow-product (c .before .before .before .pre)))
 
 mul-round-up-8 : tie.Need-mul-round-up-8
 mul-round-up-8 c = omega (arith, thickening-product (c .before .before .before .pre))
-
-mul-round-up-9 : tie.Need-mul-round-up-9
-mul-round-up-9 c = search needs
 
 round-up-requires-4 : tie.Need-round-up-requires-4
 round-up-requires-4 c κs = omega (arith, thickening-product (c .before .before .before .pre))
@@ -90,44 +72,41 @@ depth c =
     (c .before .round-up3 .ensures)
     (c .round-up4 .ensures)
 
-add-depth : tie.Need-add-depth
-add-depth c = omega (arith, parts c)
+add-larger : tie.Need-add-larger
+add-larger c = omega (arith, parts c)
 
-add-depth-2 : tie.Need-add-depth-2
-add-depth-2 c = omega (arith, parts c)
+add-larger-2 : tie.Need-add-larger-2
+add-larger-2 c = omega (arith, parts c)
 
-add-depth-3 : tie.Need-add-depth-3
-add-depth-3 c = omega (arith, parts c)
+add-larger-3 : tie.Need-add-larger-3
+add-larger-3 c = omega (arith, parts c)
 
 returns : tie.Need-returns
-returns c = known (omega (arith, depth (c .before))) (depth-limits (c .before .before .before .before .before .pre))
-
-returns-2 : tie.Need-returns-2
-returns-2 c = known (omega (arith, depth (c .before))) (depth-limits (c .before .before .before .before .before .pre))
+returns c = known (c .larger .ensures ∙ depth (c .before)) (depth-limits (c .before .before .before .before .before .pre))
 
 pub settling-depth-spec : {M : Type 1} → statement M
 settling-depth-spec =
     tie.close
     (tie.spec
-    mul-round-up
-    add-round-up
+    (λ c. search needs)
+    (λ c. search needs)
     mul-round-up-2
-    sub-round-up
+    (λ c. search needs)
     round-up-requires
     mul-round-up-3
     round-up-requires-2
     mul-round-up-4
-    add-round-up-2
+    (λ c. search needs)
     mul-round-up-5
     round-up-requires-3
     mul-round-up-6
-    add-round-up-3
+    (λ c. search needs)
     mul-round-up-7
     mul-round-up-8
-    mul-round-up-9
+    (λ c. search needs)
     round-up-requires-4
-    add-depth
-    add-depth-2
-    add-depth-3
-    returns
-    returns-2)
+    add-larger
+    add-larger-2
+    add-larger-3
+    (λ c κs. search needs)
+    returns)

@@ -1,7 +1,7 @@
 -- `settling::settling_volume` meets its contract, by that of `round_up` and the limits of surface and depth. Assumes nothing.
 use native.Mathlib.Omega.{arith}
 use native.Mathlib.Nat.{mul-le-mul}
-use Rattle.rules.specs.SludgeTanks.{settlingVolume}
+use Rattle.rules.specs.SettlingSteps.{settlingVolume}
 use Rattle.settling.proofs.Limits.{known, volume-limits}
 use Rattle.settling.proofs.settling_volume.Statement.{statement}
 use Rattle.settling.proofs.settling_volume.Tie as tie

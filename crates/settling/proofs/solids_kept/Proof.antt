@@ -1,6 +1,6 @@
 -- `settling::solids_kept` meets its contract: the two tests are the definition's. Assumes nothing.
 use borrow.Author.Tests.{le-leb, lt-leb}
-use Rattle.rules.specs.SludgeTanks.{solidsKept}
+use Rattle.rules.specs.SettlingSteps.{solidsKept}
 use Rattle.settling.proofs.solids_kept.Statement.{statement}
 use Rattle.settling.proofs.solids_kept.Tie as tie
 

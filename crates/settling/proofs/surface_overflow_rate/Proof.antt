@@ -4,22 +4,10 @@ use Prim.Native.Nat.{_*_}
 use borrow.Author.Needs.{needs}
 use native.Mathlib.Omega.{arith}
 use Rattle.rules.specs.Rounding.{down}
-use Rattle.rules.specs.SludgeTanks.{volumeLoading, surfaceOverflowRate}
+use Rattle.rules.specs.SettlingSteps.{volumeLoading, surfaceOverflowRate}
 use Rattle.settling.proofs.Limits.{known, rate-limits}
 use Rattle.settling.proofs.surface_overflow_rate.Statement.{statement}
 use Rattle.settling.proofs.surface_overflow_rate.Tie as tie
-
-volume-loading-requires : tie.Need-volume-loading-requires
-volume-loading-requires c κs = search needs
-
-mul-rate : tie.Need-mul-rate
-mul-rate c = search needs
-
-div-rate : tie.Need-div-rate
-div-rate c = search needs
-
-largest-overflow-rate-requires : tie.Need-largest-overflow-rate-requires
-largest-overflow-rate-requires c κs = search needs
 
 -- the rate by V, as the definition has it
 by-volume :
@@ -42,4 +30,4 @@ returns-2 c =
     (rate-limits (c .before .before .before .args .tank) (c .before .before .before .pre))
 
 pub surface-overflow-rate-spec : {M : Type 1} → statement M
-surface-overflow-rate-spec = tie.close (tie.spec volume-loading-requires mul-rate div-rate largest-overflow-rate-requires returns returns-2)
+surface-overflow-rate-spec = tie.close (tie.spec (λ c κs. search needs) (λ c. search needs) (λ c. search needs) (λ c κs. search needs) returns returns-2)

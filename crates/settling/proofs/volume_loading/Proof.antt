@@ -1,14 +1,8 @@
 -- `settling::volume_loading` meets its contract: each arm is the definition's. Assumes nothing.
 use borrow.Author.Needs.{needs}
-use Rattle.rules.specs.SludgeTanks.{volumeLoading}
+use Rattle.rules.specs.SettlingSteps.{volumeLoading}
 use Rattle.settling.proofs.volume_loading.Statement.{statement}
 use Rattle.settling.proofs.volume_loading.Tie as tie
-
-enum-told : tie.Need-enum-told
-enum-told c = search needs
-
-enum-told-2 : tie.Need-enum-told-2
-enum-told-2 c = search needs
 
 returns : tie.Need-returns
 unfolding volumeLoading
@@ -19,4 +13,4 @@ unfolding volumeLoading
 returns-2 c = search needs
 
 pub volume-loading-spec : {M : Type 1} → statement M
-volume-loading-spec = tie.close (tie.spec enum-told enum-told-2 returns returns-2)
+volume-loading-spec = tie.close (tie.spec (λ c. search needs) (λ c. search needs) returns returns-2)

@@ -1,6 +1,6 @@
 -- `table_5` meets its contract: the rows' counts by computation. Assumes nothing.
 use Rattle.rules.specs.AgeNitrate.{perDegree, decay, correctedAge}
-use Rattle.rules.specs.SludgeTanks.{biomassDecay}
+use Rattle.rules.specs.ReactorSteps.{biomassDecay}
 use Rattle.tables.specs.Values.{agrees, agreeing}
 use borrow.Author.Needs.{needs}
 use Rattle.tables.proofs.table_5.Statement.{statement}

@@ -7,12 +7,6 @@ use Rattle.reactor.proofs.AgeLimits.{aerobic-product}
 use Rattle.reactor.proofs.age.aerobic_age.Statement.{statement}
 use Rattle.reactor.proofs.age.aerobic_age.Tie as tie
 
-mul-round-up : tie.Need-mul-round-up
-mul-round-up c = search needs
-
-growth-requires : tie.Need-growth-requires
-growth-requires c κs = search needs
-
 product : (c : tie.After-growth) → c .before .args .factor * 34 * c .growth .result ≤ 10_000_000_000
 product c = aerobic-product (c .before .args .factor) (c .growth .result) (search needs) (search needs)
 
@@ -29,4 +23,4 @@ returns c =
 
 pub aerobic-age-spec : {M : Type 1} → statement M
 aerobic-age-spec =
-    tie.close (tie.spec mul-round-up growth-requires mul-round-up-2 round-up-requires returns)
+    tie.close (tie.spec (λ c. search needs) (λ c κs. search needs) mul-round-up-2 round-up-requires returns)

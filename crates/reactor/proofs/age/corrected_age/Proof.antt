@@ -7,9 +7,6 @@ use Rattle.reactor.proofs.AgeLimits.{corrected-product}
 use Rattle.reactor.proofs.age.corrected_age.Statement.{statement}
 use Rattle.reactor.proofs.age.corrected_age.Tie as tie
 
-decay-requires : tie.Need-decay-requires
-decay-requires c κs = search needs
-
 product : (c : tie.After-decay) → c .before .args .age * c .decay .result ≤ 1_420_000 * c .before .args .age
 product c = corrected-product (c .before .args .age) (c .decay .result) (search needs)
 
@@ -21,4 +18,4 @@ unfolding correctedAge
 returns c = (rw (c .decay .ensures .0), omega (arith, product c))
 
 pub corrected-age-spec : {M : Type 1} → statement M
-corrected-age-spec = tie.close (tie.spec decay-requires mul-result returns)
+corrected-age-spec = tie.close (tie.spec (λ c κs. search needs) mul-result returns)

@@ -6,15 +6,6 @@ use Rattle.rules.specs.AgeNitrate.{safetyFactor}
 use Rattle.reactor.proofs.age.safety_factor.Statement.{statement}
 use Rattle.reactor.proofs.age.safety_factor.Tie as tie
 
-sub-result : tie.Need-sub-result
-sub-result c = search needs
-
-mul-result : tie.Need-mul-result
-mul-result c = search needs
-
-sub-result-2 : tie.Need-sub-result-2
-sub-result-2 c = search needs
-
 returns : tie.Need-returns
 unfolding safetyFactor
 returns c = (simp (le-leb (c .before .args .load) 1_200 (omega arith)), omega arith)
@@ -33,4 +24,4 @@ returns-3 c =
 
 pub safety-factor-spec : {M : Type 1} → statement M
 safety-factor-spec =
-    tie.close (tie.spec sub-result mul-result sub-result-2 returns returns-2 returns-3)
+    tie.close (tie.spec (λ c. search needs) (λ c. search needs) (λ c. search needs) returns returns-2 returns-3)

@@ -6,18 +6,9 @@ use Rattle.reactor.proofs.Limits.{limited}
 use Rattle.reactor.proofs.age.sludge_age.Statement.{statement}
 use Rattle.reactor.proofs.age.sludge_age.Tie as tie
 
-mul-round-up : tie.Need-mul-round-up
-mul-round-up c = search needs
-
-sub-round-up : tie.Need-sub-round-up
-sub-round-up c = search needs
-
-round-up-requires : tie.Need-round-up-requires
-round-up-requires c κs = search needs
-
 returns : tie.Need-returns
 unfolding sludgeAge
 returns c = limited (c .round-up .ensures) (sludge-age-most (c .before .args .aerobic) (c .before .args .fraction) (search needs) (search needs))
 
 pub sludge-age-spec : {M : Type 1} → statement M
-sludge-age-spec = tie.close (tie.spec mul-round-up sub-round-up round-up-requires returns)
+sludge-age-spec = tie.close (tie.spec (λ c. search needs) (λ c. search needs) (λ c κs. search needs) returns)

@@ -4,36 +4,6 @@ use Rattle.rules.specs.AgeNitrate.{capacity}
 use Rattle.reactor.proofs.nitrate.capacity.Statement.{statement}
 use Rattle.reactor.proofs.nitrate.capacity.Tie as tie
 
-enum-told : tie.Need-enum-told
-enum-told c = search needs
-
-table-capacity-requires : tie.Need-table-capacity-requires
-table-capacity-requires c κs = search needs
-
-risen-capacity-requires : tie.Need-risen-capacity-requires
-risen-capacity-requires c κs = search needs
-
-enum-told-2 : tie.Need-enum-told-2
-enum-told-2 c = search needs
-
-uptake-capacity-requires : tie.Need-uptake-capacity-requires
-uptake-capacity-requires c κs = search needs
-
-enum-told-3 : tie.Need-enum-told-3
-enum-told-3 c = search needs
-
-uptake-capacity-requires-2 : tie.Need-uptake-capacity-requires-2
-uptake-capacity-requires-2 c κs = search needs
-
-enum-told-4 : tie.Need-enum-told-4
-enum-told-4 c = search needs
-
-table-capacity-requires-2 : tie.Need-table-capacity-requires-2
-table-capacity-requires-2 c κs = search needs
-
-risen-capacity-requires-2 : tie.Need-risen-capacity-requires-2
-risen-capacity-requires-2 c κs = search needs
-
 returns : tie.Need-returns
 unfolding capacity
 returns c = (
@@ -60,16 +30,16 @@ pub capacity-spec : {M : Type 1} → statement M
 capacity-spec =
     tie.close
     (tie.spec
-    enum-told
-    table-capacity-requires
-    risen-capacity-requires
-    enum-told-2
-    uptake-capacity-requires
-    enum-told-3
-    uptake-capacity-requires-2
-    enum-told-4
-    table-capacity-requires-2
-    risen-capacity-requires-2
+    (λ c. search needs)
+    (λ c κs. search needs)
+    (λ c κs. search needs)
+    (λ c. search needs)
+    (λ c κs. search needs)
+    (λ c. search needs)
+    (λ c κs. search needs)
+    (λ c. search needs)
+    (λ c κs. search needs)
+    (λ c κs. search needs)
     returns
     returns-2
     returns-3

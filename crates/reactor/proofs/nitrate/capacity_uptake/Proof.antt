@@ -8,18 +8,6 @@ use Rattle.reactor.proofs.Limits.{limited}
 use Rattle.reactor.proofs.nitrate.capacity_uptake.Statement.{statement}
 use Rattle.reactor.proofs.nitrate.capacity_uptake.Tie as tie
 
-mul-result : tie.Need-mul-result
-mul-result c = search needs
-
-mul-result-2 : tie.Need-mul-result-2
-mul-result-2 c = search needs
-
-add-result : tie.Need-add-result
-add-result c = search needs
-
-div-result : tie.Need-div-result
-div-result c = search needs
-
 add-result-2 : tie.Need-add-result-2
 unfolding capacityUptake
 add-result-2 c = omega (arith, capacity-uptake-most (c .args .corrected))
@@ -30,4 +18,4 @@ returns c = limited refl (capacity-uptake-most (c .args .corrected))
 
 pub capacity-uptake-spec : {M : Type 1} → statement M
 capacity-uptake-spec =
-    tie.close (tie.spec mul-result mul-result-2 add-result div-result add-result-2 returns)
+    tie.close (tie.spec (λ c. search needs) (λ c. search needs) (λ c. search needs) (λ c. search needs) add-result-2 returns)

@@ -4,12 +4,9 @@ use Rattle.rules.specs.AgeNitrate.{denitrified}
 use Rattle.reactor.proofs.nitrate.denitrified.Statement.{statement}
 use Rattle.reactor.proofs.nitrate.denitrified.Tie as tie
 
-saturating-sub-requires : tie.Need-saturating-sub-requires
-saturating-sub-requires c κs = search needs
-
 returns : tie.Need-returns
 unfolding denitrified
 returns c = search needs
 
 pub denitrified-spec : {M : Type 1} → statement M
-denitrified-spec = tie.close (tie.spec saturating-sub-requires returns)
+denitrified-spec = tie.close (tie.spec (λ c κs. search needs) returns)

@@ -11,12 +11,6 @@ use Rattle.reactor.proofs.nitrate.risen_capacity.Tie as tie
 product : (c : tie.Else1) → c .before .args .table * (100 + (c .before .args .temperature - 12)) ≤ 16_200
 product c = risen-product (c .before .args .table) (c .before .args .temperature) (search needs) (search needs)
 
-sub-result : tie.Need-sub-result
-sub-result c = search needs
-
-add-result : tie.Need-add-result
-add-result c = search needs
-
 mul-result : tie.Need-mul-result
 mul-result c = omega (arith, product c)
 
@@ -29,4 +23,4 @@ unfolding risenCapacity
 returns-2 c = (simp (lt-leb (c .before .args .temperature) 12 (omega arith)), omega (arith, product c))
 
 pub risen-capacity-spec : {M : Type 1} → statement M
-risen-capacity-spec = tie.close (tie.spec sub-result add-result mul-result returns returns-2)
+risen-capacity-spec = tie.close (tie.spec (λ c. search needs) (λ c. search needs) mul-result returns returns-2)

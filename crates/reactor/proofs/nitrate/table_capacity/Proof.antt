@@ -6,33 +6,6 @@ use Rattle.rules.specs.AgeNitrate.{tableCapacity}
 use Rattle.reactor.proofs.nitrate.table_capacity.Statement.{statement}
 use Rattle.reactor.proofs.nitrate.table_capacity.Tie as tie
 
-sub-result : tie.Need-sub-result
-sub-result c = search needs
-
-mul-result : tie.Need-mul-result
-mul-result c = search needs
-
-add-result : tie.Need-add-result
-add-result c = search needs
-
-sub-result-2 : tie.Need-sub-result-2
-sub-result-2 c = search needs
-
-mul-result-2 : tie.Need-mul-result-2
-mul-result-2 c = search needs
-
-add-result-2 : tie.Need-add-result-2
-add-result-2 c = search needs
-
-sub-result-3 : tie.Need-sub-result-3
-sub-result-3 c = search needs
-
-mul-result-3 : tie.Need-mul-result-3
-mul-result-3 c = search needs
-
-add-result-3 : tie.Need-add-result-3
-add-result-3 c = search needs
-
 returns : tie.Need-returns
 unfolding tableCapacity
 returns c = (simp (le-leb _ _ (c .if1 .taken)), omega arith)
@@ -49,15 +22,15 @@ pub table-capacity-spec : {M : Type 1} → statement M
 table-capacity-spec =
     tie.close
     (tie.spec
-    sub-result
-    mul-result
-    add-result
-    sub-result-2
-    mul-result-2
-    add-result-2
-    sub-result-3
-    mul-result-3
-    add-result-3
+    (λ c. search needs)
+    (λ c. search needs)
+    (λ c. search needs)
+    (λ c. search needs)
+    (λ c. search needs)
+    (λ c. search needs)
+    (λ c. search needs)
+    (λ c. search needs)
+    (λ c. search needs)
     returns
     returns-2
     returns-3)

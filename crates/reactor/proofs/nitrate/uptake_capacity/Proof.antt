@@ -7,12 +7,6 @@ use Rattle.reactor.proofs.NitrateLimits.{uptake-product}
 use Rattle.reactor.proofs.nitrate.uptake_capacity.Statement.{statement}
 use Rattle.reactor.proofs.nitrate.uptake_capacity.Tie as tie
 
-mul-result : tie.Need-mul-result
-mul-result c = search needs
-
-capacity-uptake-requires : tie.Need-capacity-uptake-requires
-capacity-uptake-requires c κs = search needs
-
 product : (c : tie.After-capacity-uptake) → 75 * c .before .args .fraction * c .capacity-uptake .result ≤ 54_112_500
 product c = uptake-product (c .before .args .fraction) (c .capacity-uptake .result) (search needs) (search needs)
 
@@ -25,4 +19,4 @@ returns c = (rw (c .capacity-uptake .ensures .0), omega (arith, product c))
 
 pub uptake-capacity-spec : {M : Type 1} → statement M
 uptake-capacity-spec =
-    tie.close (tie.spec mul-result capacity-uptake-requires mul-result-2 returns)
+    tie.close (tie.spec (λ c. search needs) (λ c κs. search needs) mul-result-2 returns)

@@ -2,7 +2,7 @@
 use Prim.Native.Nat.{_+_, _-_, _*_, _≤_}
 use borrow.Author.Needs.{needs}
 use native.Mathlib.Omega.{arith}
-use Rattle.rules.specs.SludgeTanks.{carbonSludge}
+use Rattle.rules.specs.ReactorSteps.{carbonSludge}
 use Rattle.reactor.proofs.SludgeLimits.{carbon-sum, carbon-product}
 use Rattle.reactor.proofs.sludge.carbon_sludge.Statement.{statement}
 use Rattle.reactor.proofs.sludge.carbon_sludge.Tie as tie
@@ -20,17 +20,8 @@ product c =
     (search needs)
     (search needs)
 
-biomass-decay-requires : tie.Need-biomass-decay-requires
-biomass-decay-requires c κs = search needs
-
-sub-round-up : tie.Need-sub-round-up
-sub-round-up c = search needs
-
 mul-round-up : tie.Need-mul-round-up
 mul-round-up c = omega (arith, sum c)
-
-mul-round-up-2 : tie.Need-mul-round-up-2
-mul-round-up-2 c = search needs
 
 add-round-up : tie.Need-add-round-up
 add-round-up c = omega (arith, sum c)
@@ -50,10 +41,10 @@ pub carbon-sludge-spec : {M : Type 1} → statement M
 carbon-sludge-spec =
     tie.close
     (tie.spec
-    biomass-decay-requires
-    sub-round-up
+    (λ c κs. search needs)
+    (λ c. search needs)
     mul-round-up
-    mul-round-up-2
+    (λ c. search needs)
     add-round-up
     mul-round-up-3
     round-up-requires

@@ -2,7 +2,7 @@
 use borrow.Author.Needs.{needs}
 use Prim.Native.Nat.{_*_, _≤_}
 use native.Mathlib.Omega.{arith}
-use Rattle.rules.specs.SludgeTanks.{sludgeMass}
+use Rattle.rules.specs.ReactorSteps.{sludgeMass}
 use Rattle.reactor.proofs.SludgeLimits.{mass-product}
 use Rattle.reactor.proofs.sludge.sludge_mass.Statement.{statement}
 use Rattle.reactor.proofs.sludge.sludge_mass.Tie as tie

@@ -1,14 +1,8 @@
 -- `sludge::sludge_per_phosphorus` meets its contract: each precipitant is a case of the definition. Assumes nothing.
 use borrow.Author.Needs.{needs}
-use Rattle.rules.specs.SludgeTanks.{sludgePerPhosphorus}
+use Rattle.rules.specs.ReactorSteps.{sludgePerPhosphorus}
 use Rattle.reactor.proofs.sludge.sludge_per_phosphorus.Statement.{statement}
 use Rattle.reactor.proofs.sludge.sludge_per_phosphorus.Tie as tie
-
-enum-told : tie.Need-enum-told
-enum-told c = search needs
-
-enum-told-2 : tie.Need-enum-told-2
-enum-told-2 c = search needs
 
 returns : tie.Need-returns
 unfolding sludgePerPhosphorus
@@ -19,4 +13,4 @@ unfolding sludgePerPhosphorus
 returns-2 c = search needs
 
 pub sludge-per-phosphorus-spec : {M : Type 1} → statement M
-sludge-per-phosphorus-spec = tie.close (tie.spec enum-told enum-told-2 returns returns-2)
+sludge-per-phosphorus-spec = tie.close (tie.spec (λ c. search needs) (λ c. search needs) returns returns-2)

@@ -1,0 +1,126 @@
+-- The five readings converted and gathered are document 01's rules 2 to 4 in order. Assumes nothing.
+use mathlib.Core.Path.{_≡_, refl, _∙_}
+use mathlib.Core.Bool.{Bool, true, false, cond, not}
+use mathlib.Core.List.{List, [], _∷_, _++_}
+use Prim.Native.Nat.{ℕ, _≤_, zero-le}
+use lib.Ieee.Fits.{and-r}
+use denote.Floats.{passes}
+use Rattle.rules.specs.Rules.{Rule, rule, verdict, after}
+use Rattle.rules.specs.PlantData.{plantInRange}
+use Rattle.rules.specs.LabReadings.{resultInRange, headsInRange, readingNoNumber, readingInRange, readingValue, codRatioBroken}
+use Rattle.rules.specs.Accepting.{valuesOf, readingRules, readingsRules, dataRules, acceptBy, accept}
+use Rattle.rules.specs.declared.Plant.{Plant}
+use Rattle.rules.specs.declared.PrimarySettling.{PrimarySettling}
+use Rattle.rules.specs.declared.Parameter.{Parameter}
+use Rattle.rules.specs.declared.Reading.{Reading}
+use Rattle.rules.specs.declared.Readings.{Readings}
+use Rattle.rules.specs.declared.Refusal.{Refusal}
+use Rattle.rules.specs.declared.Verdict.{Verdict}
+use Rattle.rules.specs.declared.Acceptance.{Acceptance}
+use Rattle.rules.proofs.AcceptedData.{result-most}
+use Rattle.rules.proofs.RuleLists.{verdict-append}
+use Rattle.accepting.specs.Conversion.{valueOf, convert, gather, acceptReadings}
+use Rattle.accepting.specs.declared.Converted.{Converted}
+
+-- what a verdict on 2 and 3 makes of a reading's value
+abbrev converted : Verdict → ℕ → Converted
+converted Verdict.Kept v = Converted.Value v
+converted (Verdict.Broken n) v = Converted.Refused n
+
+convert-by-rules : (q : ℕ) (s : PrimarySettling) (k : Parameter) (r : Reading) → convert q s k r ≡ converted (verdict (readingRules q s k r)) (readingValue q s k r)
+unfolding convert
+convert-by-rules q s k r = go (readingNoNumber r) (readingInRange q s k r)
+  where
+    go :
+        (a b : Bool)
+        → cond a (Converted.Refused Refusal.NoNumber) (cond b (Converted.Value (readingValue q s k r)) (Converted.Refused Refusal.ReadingRange))
+        ≡ converted (verdict (rule Refusal.NoNumber (not a) ∷ rule Refusal.ReadingRange b ∷ [])) (readingValue q s k r)
+    go true b = refl
+    go false true = refl
+    go false false = refl
+
+-- a conversion, refused or not, has no larger value than the largest range
+pub converted-most : (q : ℕ) (s : PrimarySettling) (k : Parameter) (r : Reading) → valueOf (convert q s k r) ≤ 4_400_000
+unfolding convert readingInRange
+converted-most q s k r = go (readingNoNumber r) (readingInRange q s k r) refl
+  where
+    go :
+        (a b : Bool)
+        → readingInRange q s k r ≡ b
+        → valueOf (cond a (Converted.Refused Refusal.NoNumber) (cond b (Converted.Value (readingValue q s k r)) (Converted.Refused Refusal.ReadingRange))) ≤ 4_400_000
+    go true b e = zero-le
+    go false false e = zero-le
+    go false true e = result-most k (readingValue q s k r) (and-r (headsInRange r) (resultInRange k (readingValue q s k r)) (passes (readingInRange q s k r) e))
+
+-- rule 4 alone
+abbrev ratio : ℕ → ℕ → List Rule
+ratio c o = rule Refusal.CodRatio (not (codRatioBroken c o)) ∷ []
+
+gather-by-rules :
+    (v w x y z : Verdict) (c o s n p : ℕ)
+    → gather (converted v c) (converted w o) (converted x s) (converted y n) (converted z p)
+    ≡ acceptBy (after v (after w (after x (after y (after z (verdict (ratio c o))))))) (record { bod = c; cod = o; solids = s; nitrogen = n; phosphorus = p })
+unfolding gather acceptBy
+gather-by-rules (Verdict.Broken m) w x y z c o s n p = refl
+gather-by-rules Verdict.Kept (Verdict.Broken m) x y z c o s n p = refl
+gather-by-rules Verdict.Kept Verdict.Kept (Verdict.Broken m) y z c o s n p = refl
+gather-by-rules Verdict.Kept Verdict.Kept Verdict.Kept (Verdict.Broken m) z c o s n p = refl
+gather-by-rules Verdict.Kept Verdict.Kept Verdict.Kept Verdict.Kept (Verdict.Broken m) c o s n p = refl
+gather-by-rules Verdict.Kept Verdict.Kept Verdict.Kept Verdict.Kept Verdict.Kept c o s n p = go (codRatioBroken c o)
+  where
+    go :
+        (b : Bool)
+        → cond b (Acceptance.Refused Refusal.CodRatio) (Acceptance.Accepted (record { bod = c; cod = o; solids = s; nitrogen = n; phosphorus = p }))
+        ≡ acceptBy (verdict (rule Refusal.CodRatio (not b) ∷ [])) (record { bod = c; cod = o; solids = s; nitrogen = n; phosphorus = p })
+    go true = refl
+    go false = refl
+
+-- six lists are judged in turn
+judged-in-turn :
+    (a b c d e f : List Rule)
+    → verdict (a ++ (b ++ (c ++ (d ++ (e ++ f)))))
+    ≡ after (verdict a) (after (verdict b) (after (verdict c) (after (verdict d) (after (verdict e) (verdict f)))))
+judged-in-turn a b c d e f = simp verdict-append
+
+module _ (p : Plant) (r : Readings) where
+  abbrev of : Parameter → Reading → List Rule
+  of k x = readingRules (p .flow) (p .«primary_settling») k x
+
+  -- the verdict on the readings' rules, reading by reading
+  in-turn :
+      verdict (readingsRules p r)
+      ≡ after (verdict (of Parameter.Bod (r .bod)))
+      (after (verdict (of Parameter.Cod (r .cod)))
+      (after (verdict (of Parameter.Solids (r .solids)))
+      (after (verdict (of Parameter.Nitrogen (r .nitrogen)))
+      (after (verdict (of Parameter.Phosphorus (r .phosphorus))) (verdict (ratio (valuesOf p r .bod) (valuesOf p r .cod)))))))
+  in-turn =
+      judged-in-turn
+      (of Parameter.Bod (r .bod))
+      (of Parameter.Cod (r .cod))
+      (of Parameter.Solids (r .solids))
+      (of Parameter.Nitrogen (r .nitrogen))
+      (of Parameter.Phosphorus (r .phosphorus))
+      (ratio (valuesOf p r .bod) (valuesOf p r .cod))
+
+  gathered : acceptReadings (p .flow) (p .«primary_settling») r ≡ acceptBy (verdict (readingsRules p r)) (valuesOf p r)
+  unfolding acceptReadings valuesOf
+  gathered =
+      rw (in-turn, convert-by-rules, convert-by-rules, convert-by-rules, convert-by-rules, convert-by-rules)
+      (gather-by-rules
+      (verdict (of Parameter.Bod (r .bod)))
+      (verdict (of Parameter.Cod (r .cod)))
+      (verdict (of Parameter.Solids (r .solids)))
+      (verdict (of Parameter.Nitrogen (r .nitrogen)))
+      (verdict (of Parameter.Phosphorus (r .phosphorus)))
+      _ _ _ _ _)
+
+  -- 1 is due
+  pub out-of-range : plantInRange p ≡ false → Acceptance.Refused Refusal.PlantData ≡ accept p r
+  unfolding accept acceptBy dataRules
+  out-of-range e = rw e
+
+  -- 1 is not due: the readings decide
+  pub in-range : plantInRange p ≡ true → acceptReadings (p .flow) (p .«primary_settling») r ≡ accept p r
+  unfolding accept acceptBy dataRules
+  in-range e = gathered ∙ rw e

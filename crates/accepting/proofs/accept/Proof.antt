@@ -1,0 +1,25 @@
+-- `accepting::accept` meets its contract: where the plant data are in range, the daily flow is above 0. Assumes nothing.
+use borrow.Author.Needs.{needs}
+use mathlib.Core.Path.{sym, _∙_}
+use borrow.Author.Tests.{not-true, not-false}
+use denote.Floats.{passes}
+use Rattle.rules.proofs.RangeFacts.{plant-ranges}
+use Rattle.accepting.proofs.Gathering.{out-of-range, in-range}
+use Rattle.accepting.proofs.accept.Statement.{statement}
+use Rattle.accepting.proofs.accept.Tie as tie
+
+returns : tie.Need-returns
+returns c =
+    out-of-range (c .before .before .args .plant) (c .before .before .args .readings) (sym (c .before .plant-in-range .ensures) ∙ not-true _ (c .if1 .taken))
+
+accept-readings-requires : tie.Need-accept-readings-requires
+accept-readings-requires c κs =
+    plant-ranges (c .before .before .args .plant) .0 (passes _ (sym (c .before .plant-in-range .ensures) ∙ not-false _ (c .if1 .left))) .flow .least
+
+returns-2 : tie.Need-returns-2
+returns-2 c =
+    c .accept-readings .ensures
+    ∙ in-range (c .before .before .before .args .plant) (c .before .before .before .args .readings) (sym (c .before .before .plant-in-range .ensures) ∙ not-false _ (c .before .if1 .left))
+
+pub accept-spec : {M : Type 1} → statement M
+accept-spec = tie.close (tie.spec (λ c κs. search needs) returns accept-readings-requires returns-2)

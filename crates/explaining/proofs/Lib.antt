@@ -1,0 +1,2 @@
+-- What explaining shuts out.
+pub mod Refuted

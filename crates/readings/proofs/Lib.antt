@@ -1,7 +1,0 @@
--- Laws of this crate that belong to no one function.
-pub mod Ties
-pub mod ExactValue
-pub mod NumberTest
-pub mod Conversions
-pub mod AcceptedRanges
-pub mod Refuted

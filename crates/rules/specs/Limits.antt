@@ -1,0 +1,81 @@
+-- Numbers that stand in several places, each named once: the ends of the grid and of the plant's temperatures, and round
+-- limits of the figures for accepted data on the grid, which the arithmetic of the inner functions needs.
+-- Assumes nothing.
+use Prim.Native.Nat.{ℕ}
+
+-- degrees
+abbrev pub leastTemperature : ℕ
+leastTemperature = 10
+
+abbrev pub mostTemperature : ℕ
+mostTemperature = 20
+
+-- f, thousandths
+abbrev pub leastFraction : ℕ
+leastFraction = 200
+
+abbrev pub mostFraction : ℕ
+mostFraction = 500
+
+-- r, hundredths; the largest of either flow
+abbrev pub leastRatio : ℕ
+leastRatio = 30
+
+abbrev pub mostRatio : ℕ
+mostRatio = 100
+
+-- h, tenths of an hour
+abbrev pub leastTime : ℕ
+leastTime = 20
+
+abbrev pub mostTime : ℕ
+mostTime = 25
+
+-- t, thousandths of a day
+abbrev pub mostAge : ℕ
+mostAge = 20_000
+
+-- N, and with it W and D, mg/m3
+abbrev pub mostNitrogen : ℕ
+mostNitrogen = 500_000
+
+-- K, g nitrate nitrogen per kg BOD, and K × C
+abbrev pub mostCapacity : ℕ
+mostCapacity = 193
+
+abbrev pub mostRemoves : ℕ
+mostRemoves = 386_000_000
+
+-- S, g/d, and M, kg
+abbrev pub mostSludge : ℕ
+mostSludge = 700_000_000
+
+abbrev pub mostMass : ℕ
+mostMass = 14_000_000
+
+-- E and E', g/m3
+abbrev pub leastSolids : ℕ
+leastSolids = 700
+
+abbrev pub mostSolids : ℕ
+mostSolids = 14_000
+
+abbrev pub mostReactorSolids : ℕ
+mostReactorSolids = 16_800
+
+-- V, l/m3
+abbrev pub mostSludgeVolume : ℕ
+mostSludgeVolume = 679
+
+-- A, m2; H, mm; the settling volume, m3
+abbrev pub mostSurface : ℕ
+mostSurface = 70_000
+
+abbrev pub leastDepth : ℕ
+leastDepth = 3_000
+
+abbrev pub mostDepth : ℕ
+mostDepth = 20_000
+
+abbrev pub mostSettlingVolume : ℕ
+mostSettlingVolume = 1_400_000

@@ -1,0 +1,62 @@
+-- Document 01, "Sludge and tanks", the reactor: sludge, mass and volume. What depends on the fraction alone. Assumes nothing.
+use Prim.Native.Nat.{ℕ, _+_, _-_, _*_}
+use Rattle.rules.specs.Rounding.{down, up}
+use Rattle.rules.specs.AgeNitrate.{safetyFactor, aerobicAge, sludgeAge, correctedAge, nitrified, denitrified, capacity}
+use Rattle.rules.specs.declared.Plant.{Plant}
+use Rattle.rules.specs.declared.Concentrations.{Concentrations}
+use Rattle.rules.specs.declared.Process.{Process}
+use Rattle.rules.specs.declared.Steps.{Steps}
+use Rattle.rules.specs.declared.Precipitant.{Precipitant}
+use Rattle.rules.specs.declared.Reactor.{Reactor}
+
+-- e, decay of biomass per kg BOD, from U(T) (5-12)
+unfoldable pub biomassDecay : ℕ → ℕ
+biomassDecay corrected = down (10200 * corrected) (100000 + 17 * corrected)
+
+-- carbon sludge, g/d, from Q, C, X and U(T) (5-12)
+unfoldable pub carbonSludge : ℕ → ℕ → ℕ → ℕ → ℕ
+carbonSludge flow bod solids corrected = up (flow * ((750 - biomassDecay corrected) * bod + 600 * solids)) 1_000_000
+
+-- k, sludge per phosphorus, tenths (5-14)
+unfoldable pub sludgePerPhosphorus : Precipitant → ℕ
+sludgePerPhosphorus Precipitant.Iron = 68
+sludgePerPhosphorus Precipitant.Aluminium = 53
+
+-- phosphorus sludge, g/d, from Q, k, P, P3 and C (5-9, 5-14)
+unfoldable pub phosphorusSludge : ℕ → ℕ → ℕ → ℕ → ℕ → ℕ
+phosphorusSludge flow k phosphorus target bod = up (flow * k * (phosphorus - target - down bod 100)) 10_000
+
+-- M, mass of sludge, kg, from t and S (5-15)
+unfoldable pub sludgeMass : ℕ → ℕ → ℕ
+sludgeMass age sludge = up (age * sludge) 1_000_000
+
+-- what depends on the fraction alone: f, t, W, D, K × C, S and M
+unfoldable pub reactorOf : Plant → Concentrations → ℕ → Reactor
+reactorOf p x fraction =
+    let t = sludgeAge (aerobicAge (safetyFactor (p .load)) (p .«design_temperature»)) fraction in
+    let u = correctedAge t (p .«design_temperature») in
+    let w = nitrified (x .nitrogen) (x .bod) in
+    let s =
+    carbonSludge (p .flow) (x .bod) (x .solids) u
+    + phosphorusSludge (p .flow) (sludgePerPhosphorus (p .precipitant)) (x .phosphorus) (p .«phosphorus_target») (x .bod) in
+    record {
+      fraction = fraction;
+      age = t;
+      nitrified = w;
+      denitrified = denitrified w (p .«nitrate_target»);
+      removes = capacity (p .process) fraction (p .«design_temperature») u * x .bod;
+      sludge = s;
+      mass = sludgeMass t s;
+    }
+
+-- E', the solids that the reactor is sized with, from E
+unfoldable pub reactorSolids : Process → ℕ → ℕ
+reactorSolids Process.PreAnoxic solids = solids
+reactorSolids Process.Simultaneous solids = solids
+reactorSolids Process.Intermittent solids = solids
+reactorSolids (Process.StepFeed Steps.Two) solids = down (114 * solids) 100
+reactorSolids (Process.StepFeed Steps.Three) solids = down (120 * solids) 100
+
+-- reactor volume, m3, from M and E' (5-16)
+unfoldable pub reactorVolume : ℕ → ℕ → ℕ
+reactorVolume mass solids = up (1000 * mass) solids
