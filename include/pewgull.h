@@ -1,12 +1,12 @@
 /*
  * Pewgull: dimensioning of single-stage activated sludge plants with nitrogen
- * removal. Three calls, for x86-64 and its C calling convention (System V).
+ * removal. Four calls, for x86-64 and its C calling convention (System V).
  *
  * Each call takes the bytes of a request, writes on a page that the caller
  * lends, stores the number of bytes written in *written, and gives a number.
  * Later bytes of the page stay unchanged. No call allocates memory, keeps
  * anything between calls, or reads or writes anything else: several threads
- * may call at once, each with memory of its own. A choice takes 15 kB of
+ * may call at once, each with memory of its own. A choice takes 16 kB of
  * stack, the other calls 2 kB. The archive needs memcpy and memset, and
  * nothing more.
  *
@@ -47,7 +47,7 @@
  *   23,24  92..99     reading of solids, 0..2000 mg/l
  *   25,26  100..107   reading of nitrogen, 0..500 mg/l
  *   27,28  108..115   reading of phosphorus, 0..100 mg/l
- *                     A request to choose ends here.
+ *                     A request to choose or for a census ends here.
  *   29     116..119   fraction, 200..500 thousandths
  *   30     120..123   return ratio, 30..75 (vertical flow 30..100) hundredths
  *   31     124..127   thickening time, 20..25 tenths of an hour
@@ -101,8 +101,11 @@ extern "C" {
 /* Bytes that pewgull_explain writes, and the least length of its page. */
 #define PEWGULL_FIGURES_LENGTH 56
 
+/* Bytes that pewgull_census writes, and the least length of its page. */
+#define PEWGULL_CENSUS_LENGTH 256
+
 /* Numbers that the calls give. */
-#define PEWGULL_SHEET 0          /* a sheet, or explaining figures */
+#define PEWGULL_SHEET 0          /* a sheet, figures or counts */
 #define PEWGULL_PLANT_DATA 1     /* a plant or site figure outside its range */
 #define PEWGULL_NO_NUMBER 2      /* a reading not finite, or below zero */
 #define PEWGULL_READING_RANGE 3  /* a head count or a result outside its range */
@@ -161,6 +164,31 @@ uint32_t pewgull_choose(const uint8_t *request, size_t request_length,
 uint32_t pewgull_explain(const uint8_t *request, size_t request_length,
                          uint8_t *page, size_t page_length,
                          uint64_t *written);
+
+/*
+ * Counts the candidates of the grid by their answers, for a request of
+ * PEWGULL_CHOOSE_LENGTH bytes. Gives 0 and writes PEWGULL_CENSUS_LENGTH
+ * bytes, 32 64-bit unsigned numbers, little-endian. The eight bytes from
+ * 8 k on count the candidates that pewgull_examine answers with k:
+ *
+ *   bytes    candidates
+ *   0..7     permitted (0)
+ *   56..63   refused for nitrate (7)
+ *   64..71   refused for solids (8)
+ *   72..79   refused for surface (9)
+ *   80..87   refused for depth (10)
+ *
+ * The other counts are 0 today. Each candidate is counted once, at the first
+ * rule that it breaks: the counts add up to the grid's size, 83,076 in
+ * horizontal and 128,226 in vertical flow. For such a request pewgull_choose
+ * gives 5 exactly where the first count is 0.
+ *
+ * Gives 1 to 4 and writes 256 bytes of zeros. Gives 11 for a page of fewer
+ * than 256 bytes, or 101 to 103, and writes nothing.
+ */
+uint32_t pewgull_census(const uint8_t *request, size_t request_length,
+                        uint8_t *page, size_t page_length,
+                        uint64_t *written);
 
 #ifdef __cplusplus
 }

@@ -7,8 +7,10 @@ use Rattle.rules.specs.Listing.{listing, writing, pageAfter}
 use Rattle.rules.specs.Examining.{examine}
 use Rattle.rules.specs.Choosing.{Chosen}
 use Rattle.rules.specs.Explaining.{explain}
+use Rattle.rules.specs.Census.{census}
 use Rattle.rules.specs.declared.Candidate.{Candidate}
 use Rattle.rules.specs.declared.Answer.{Answer}
+use Rattle.rules.specs.declared.Census.{Census}
 use Rattle.rules.specs.declared.Written.{Written}
 use Rattle.rules.specs.declared.Explanation.{Explanation}
 use Rattle.words.specs.Bytes.{numberBytes}
@@ -74,3 +76,14 @@ explainedAt y page x = figured (explain (x .plant) (x .readings) y) page
 
 unfoldable pub explained : List ℕ → List ℕ → Outcome
 explained bytes page = onData (explainedAt (askedCandidate bytes) page) page (decode bytes candidateWords)
+
+-- the counts of a census on a page, the count for k in the eight bytes from 8 · k on; its number 0 if it is not refused
+abbrev pub countsPut : Census → List ℕ → Outcome
+countsPut c page = putOn (c .number) (numberBytes (c .counts)) page
+
+-- a request for the census
+abbrev pub censusAt : List ℕ → Data → Outcome
+censusAt page x = countsPut (census (x .plant) (x .readings)) page
+
+unfoldable pub censused : List ℕ → List ℕ → Outcome
+censused bytes page = onData (censusAt page) page (decode bytes 0)

@@ -1,16 +1,18 @@
-// The calls for C: a request's bytes in; out the answer's number, its listing on a page that the caller lends, and the
-// number of bytes written there.
+// The calls for C: a request's bytes in; out the answer's number, its listing or its figures on a page that the caller
+// lends, and the number of bytes written there.
 use request::Decoded;
 use rules::Answer;
+use rules::Census;
 use rules::Explained;
 use rules::Explanation;
 use rules::Refusal;
 use rules::Verdict;
 use rules::Written;
 ghost use mathlib.Core.Path.{_≡_};
+ghost use Prim.Native.Nat.{_≤_};
 ghost use Rattle.rules.specs.Answers.{refusalNumber, answerNumber, verdictNumber, explanationNumber, explanationFigures};
 ghost use Rattle.words.specs.Bytes.{numberBytes};
-ghost use Rattle.interface.specs.Calls.{outcome, putOn, answered, examined, Choosing, figured, explained};
+ghost use Rattle.interface.specs.Calls.{outcome, putOn, answered, examined, Choosing, figured, explained, countsPut, censused};
 
 // The paper's number of a refusal.
 fn refusal_number(refusal: Refusal) -> u32
@@ -170,6 +172,34 @@ pub extern "C" fn pewgull_explain(request: &[u8], page: &mut [u8], written: &mut
             let readings = data.readings;
             let candidate = request::candidate(request);
             put_explanation(pewgull::explain(plant, readings, candidate), page, written)
+        }
+    }
+}
+
+// Writes the counts of a census on the page, and gives its number.
+fn put_census(census: Census, page: &mut [u8], written: &mut u64) -> u32
+    requires { ⌜ census .number ≤ 255 ⌝ }
+    ensures { λ r. ⌜ outcome r (now (page .exit)) (now (written .exit)) ≡ countsPut census (now (page .entry)) ⌝ }
+{
+    let number = census.number as u32;
+    let counts = census.counts;
+    put_figures(number, &counts, page, written)
+}
+
+// The census of the grid for the data of a request. A malformed request is answered by 101 to 103, and nothing is written.
+#[no_mangle]
+pub extern "C" fn pewgull_census(request: &[u8], page: &mut [u8], written: &mut u64) -> u32
+    ensures { λ r. ⌜ outcome r (now (page .exit)) (now (written .exit)) ≡ censused (now (request .entry)) (now (page .entry)) ⌝ }
+{
+    match request::decode(request, 0) {
+        Decoded::Malformed(fault) => {
+            *written = 0;
+            request::fault_number(fault)
+        }
+        Decoded::Data(data) => {
+            let plant = data.plant;
+            let readings = data.readings;
+            put_census(pewgull::census(plant, readings), page, written)
         }
     }
 }

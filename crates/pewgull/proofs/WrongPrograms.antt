@@ -19,3 +19,6 @@ pub use Rattle.explaining.proofs.Refuted.{always-off-grid, one-candidate-explai
 pub use Rattle.listing.proofs.Refuted.{not-refused, not-untouched, not-past-the-end, not-in-part}
 -- a reading scaled in floating point, and other wrong conversions
 pub use Rattle.accepting.proofs.Refuted.{float-product, tie-upwards, rounded-before-halving, minus-zero, nan-let-through}
+-- a census with a rule counted where an earlier one is broken, with the tank's rules before the fraction's, without the last
+-- fraction, of vertical flow with 46 return ratios, or of refused data
+pub use Rattle.census.proofs.Refuted.{earlier-rule-ignored, tank-before-fraction, last-fraction-left-out, vertical-with-46-ratios, refused-data-counted}

@@ -2,6 +2,7 @@
 // once more, as `numbered`, it says what the number, the sheet, the figures and the count are.
 use rules::Answer;
 use rules::Candidate;
+use rules::Census;
 use rules::Explanation;
 use rules::Plant;
 use rules::Readings;
@@ -11,6 +12,7 @@ ghost use Rattle.rules.specs.Examining.{examine};
 ghost use Rattle.rules.specs.Choosing.{Chosen};
 ghost use Rattle.rules.specs.Explaining.{explain};
 ghost use Rattle.rules.specs.Answers.{answerNumber, answerSheet, explanationNumber, explanationFigures, writtenNumber, writtenCount};
+ghost use Rattle.rules.specs.Census.{census, CensusOutcome};
 ghost use Rattle.rules.specs.Outcomes.{Examined, ChosenOutcome, ExplainedOutcome, WritingOutcome};
 ghost use Rattle.rules.specs.TwoColumns.{TwoColumns};
 ghost use Rattle.listing.specs.Pages.{Writes};
@@ -39,6 +41,14 @@ pub fn explain(plant: Plant, readings: Readings, candidate: Candidate) -> Explan
     ensures numbered { λ r. ⌜ ExplainedOutcome plant readings candidate (explanationNumber r) (explanationFigures r) ⌝ }
 {
     explaining::explain(plant, readings, candidate)
+}
+
+// The census of the grid: how many candidates are permitted, and of how many each rule is the first broken.
+pub fn census(plant: Plant, readings: Readings) -> Census
+    ensures { λ r. ⌜ r ≡ census plant readings ⌝ }
+    ensures numbered { λ r. ⌜ CensusOutcome plant readings (r .number) (r .counts) ⌝ }
+{
+    census::census(plant, readings)
 }
 
 // The listing of an answer on a lent page: written whole, or refused with 11 and the page as it was.

@@ -13,6 +13,8 @@ use Rattle.rules.specs.Choosing
 use Rattle.rules.specs.Explaining
 use Rattle.rules.specs.Answers
 use Rattle.rules.specs.Listing
+use Rattle.rules.specs.Sums
+use Rattle.rules.specs.Census
 use Rattle.rules.specs.Cases
 
 unfoldable pub steps : Unit {0}
@@ -116,6 +118,13 @@ unfolding
     Listing.line
     Listing.sheetListing
     Listing.listing
+    Sums.sumFrom
+    Sums.valuesFrom
+    Census.sumOverGrid
+    Census.gridSize
+    Census.counted
+    Census.censusAccepted
+    Census.census
     Cases.variant
     Cases.hopperPlant
     Cases.caseA

@@ -1,12 +1,16 @@
 -- Laws of the definitions, each in one place and cited from everywhere.
 pub mod Quotients
+pub mod SumLaws
 pub mod Tests
 pub mod RangeFacts
+pub mod GridSums
 pub mod AcceptedData
 pub mod CubeRoot
 pub mod RuleLists
 pub mod RuleOrder
 pub mod Examined
+pub mod CensusLaws
+pub mod CensusOutcomes
 pub mod NitrateColumns
 pub mod OutcomeLaws
 pub mod ChosenOnce

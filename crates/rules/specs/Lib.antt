@@ -1,9 +1,10 @@
 -- Document 01 as definitions over the whole numbers, in its order: the roundings; plant data and site; lab readings, with
 -- the rules 1 to 4; sludge age and nitrate; sludge and tanks; aeration and recirculation; examining, with the rules 6 to
 -- 10, and numbered answers; choosing; the listing; the worked cases. Beside them: the ranges as facts, the two nitrate
--- columns, and what explains a candidate.
+-- columns, what explains a candidate, and the census of the grid.
 pub mod Rounding
 pub mod Limits
+pub mod Sums
 pub mod PlantData
 pub mod LabReadings
 pub mod Rules
@@ -19,5 +20,6 @@ pub mod Choosing
 pub mod Explaining
 pub mod Outcomes
 pub mod TwoColumns
+pub mod Census
 pub mod Listing
 pub mod Cases

@@ -258,3 +258,14 @@ pub enum Explanation {
     Figures(Explained),
     Refused(Refusal),
 }
+
+// How many numbers a census has counts for: every answer's number is below it.
+pub const ANSWER_NUMBERS: usize = 32;
+
+// What the census of the grid answers: 0 and the counts, or a refusal's number and zeros.
+pub struct Census {
+    pub number: u64,
+    // at k how many candidates of the grid are answered with k: at 0 the permitted ones, at a rule's number those of which
+    // it is the first broken
+    pub counts: [u64; ANSWER_NUMBERS],
+}

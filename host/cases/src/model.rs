@@ -7,6 +7,8 @@ use reference::{listing, Answer};
 pub const SHORT_PAGE: u32 = reference::refusal::SHORT_PAGE as u32;
 /// Bytes that explaining writes.
 pub const EXPLAIN_PAGE: usize = 56;
+/// Bytes that a census writes.
+pub const CENSUS_PAGE: usize = 256;
 
 /// The call's number and the bytes it writes at the start of the page.
 #[derive(Clone, Debug, PartialEq, Eq)]
@@ -75,6 +77,26 @@ pub fn explain(request: &[u8], page_length: usize) -> Outcome {
             (0, judged_by(&stages, answer.number()))
         }
     };
+    put(number, &figures)
+}
+
+/// The numbers in eight bytes each, the lowest byte first.
+fn put(number: u32, figures: &[u64]) -> Outcome {
     let written = figures.iter().flat_map(|f| f.to_le_bytes()).collect();
     Outcome { number, written }
+}
+
+/// A count for each number from 0 on, or a refusal and zeros.
+pub fn census(request: &[u8], page_length: usize) -> Outcome {
+    let data = match decode(request, CHOOSE_LENGTH) {
+        Err(fault) => return nothing(fault),
+        Ok(data) => data,
+    };
+    if page_length < CENSUS_PAGE {
+        return nothing(SHORT_PAGE);
+    }
+    match reference::census(&data.plant, &data.readings) {
+        Err(number) => put(u32::from(number), &[0; CENSUS_PAGE / 8]),
+        Ok(counts) => put(0, &counts),
+    }
 }

@@ -1,12 +1,15 @@
 //! One request to the library and to the reference.
 
 use cases::model::{self, Outcome};
+use library::number::{NO_DESIGN, SHEET};
+use library::{Census, CENSUS_LENGTH, PAGE_LENGTH};
 
 #[derive(Clone, Copy, Debug, PartialEq, Eq)]
 pub enum Operation {
     Examine,
     Choose,
     Explain,
+    Census,
 }
 
 /// Bytes before and after the page that must stay as they were.
@@ -30,6 +33,7 @@ fn call(operation: Operation, request: &[u8], page_length: usize) -> Given {
         Operation::Examine => library::examine(request, page),
         Operation::Choose => library::choose(request, page),
         Operation::Explain => library::explain(request, page),
+        Operation::Census => library::census(request, page),
     };
     Given {
         number,
@@ -43,6 +47,7 @@ pub fn expected(operation: Operation, request: &[u8], page_length: usize) -> Out
         Operation::Examine => model::examine(request, page_length),
         Operation::Choose => model::choose(request, page_length),
         Operation::Explain => model::explain(request, page_length),
+        Operation::Census => model::census(request, page_length),
     }
 }
 
@@ -120,4 +125,25 @@ pub fn agree(
 pub fn compare(operation: Operation, request: &[u8], page_length: usize) -> Result<u32, String> {
     let outcome = expected(operation, request, page_length);
     agree(operation, request, page_length, &outcome)
+}
+
+/// The library's census against the reference's, and against its own choice:
+/// that is 5 exactly where no candidate is permitted. Gives its number.
+pub fn compare_census(request: &[u8]) -> Result<u32, String> {
+    let counted = compare(Operation::Census, request, CENSUS_LENGTH)?;
+    let mut page = [0; CENSUS_LENGTH];
+    library::census(request, &mut page);
+    let permitted = Census::from_page(&page).permitted();
+    let (chosen, _) = library::choose(request, &mut [0; PAGE_LENGTH]);
+    let due = match (counted, permitted) {
+        (SHEET, 0) => NO_DESIGN,
+        (number, _) => number,
+    };
+    match chosen == due {
+        true => Ok(chosen),
+        false => Err(format!(
+            "Census: {counted}, {permitted} permitted, but the choice is {chosen}: {}",
+            hex(request)
+        )),
+    }
 }

@@ -119,8 +119,8 @@ pub fn any(random: &mut Random, tanks: &OnLines, operation: Operation) -> Vec<u8
         _ => request,
     };
     let bytes = match operation {
-        Operation::Choose => request.choose_bytes(),
-        _ => request.examine_bytes(),
+        Operation::Choose | Operation::Census => request.choose_bytes(),
+        Operation::Examine | Operation::Explain => request.examine_bytes(),
     };
     if random.one_in(32) {
         damaged_length(random, bytes)

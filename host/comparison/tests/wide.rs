@@ -3,7 +3,7 @@
 use cases::groups;
 use cases::random::Random;
 use cases::tanks::OnLines;
-use comparison::compare::{agree, compare, expected, Operation};
+use comparison::compare::{agree, compare, compare_census, expected, Operation};
 use comparison::counts::{in_parts, settle, Found};
 use comparison::requests;
 use comparison::stack::stack_of;
@@ -12,6 +12,10 @@ use library::number::*;
 const EXAMINATIONS: usize = 50_000;
 const EXPLANATIONS: usize = 50_000;
 const CHOICES: usize = 4_000;
+/// Of each tank flow.
+const CENSUSES: usize = 320;
+/// Damaged ones among them, on pages of several lengths.
+const ANY_CENSUSES: usize = 960;
 
 /// Random requests of one operation, on pages of several lengths.
 fn random_requests(operation: Operation, seed: u64, count: usize) -> Found {
@@ -74,12 +78,46 @@ fn choices() {
     settle("choose", &found, &wanted);
 }
 
+/// Plants of one tank flow, with and without a design: the counts, and the
+/// choice that goes with them.
+#[test]
+fn censuses_and_choices() {
+    let tanks = OnLines::find();
+    for (flow, name) in ["census, horizontal", "census, vertical"]
+        .iter()
+        .enumerate()
+    {
+        let found = in_parts(4_000 + 100 * flow as u64, CENSUSES, |seed, share| {
+            let mut random = Random::new(seed);
+            let mut found = Found::default();
+            for turn in 0..share {
+                let request = match turn % 2 {
+                    0 => requests::with_design(&mut random),
+                    _ => requests::sound(&mut random, &tanks),
+                };
+                let request = request.with(cases::request::TANK_FLOW, flow as u32);
+                found.add(compare_census(&request.choose_bytes()));
+            }
+            found
+        });
+        settle(name, &found, &[(SHEET, 100), (NO_DESIGN, 50)]);
+    }
+}
+
+#[test]
+fn any_censuses() {
+    let found = random_requests(Operation::Census, 5_000, ANY_CENSUSES);
+    let not_given = [NO_DESIGN, OFF_GRID, NITRATE, SOLIDS, SURFACE, DEPTH];
+    settle("census", &found, &all_but(&not_given, 5));
+}
+
 /// Every page length up to a few bytes more than the listing, for an
-/// examination, a choice, a refusal and an explanation.
+/// examination, a choice, a refusal, an explanation and a census.
 #[test]
 fn page_lengths() {
     let plant = cases::plants::case_a();
     let off_grid = plant.with(cases::request::FRACTION, 199);
+    let no_load = plant.with(cases::request::LOAD, 0);
     let mut found = Found::default();
     for (operation, bytes) in [
         (Operation::Examine, plant.examine_bytes()),
@@ -87,6 +125,8 @@ fn page_lengths() {
         (Operation::Examine, off_grid.examine_bytes()),
         (Operation::Explain, plant.examine_bytes()),
         (Operation::Explain, off_grid.examine_bytes()),
+        (Operation::Census, plant.choose_bytes()),
+        (Operation::Census, no_load.choose_bytes()),
     ] {
         let exact = expected(operation, &bytes, 512).written.len();
         for length in 0..=exact + 3 {
@@ -96,7 +136,12 @@ fn page_lengths() {
     settle(
         "page lengths",
         &found,
-        &[(SHEET, 12), (OFF_GRID, 8), (SHORT_PAGE, 400)],
+        &[
+            (SHEET, 16),
+            (PLANT_DATA, 4),
+            (OFF_GRID, 8),
+            (SHORT_PAGE, 900),
+        ],
     );
 }
 
@@ -140,9 +185,10 @@ fn stack_as_stated() {
     for request in [plant, vertical] {
         let (examine, choose) = (request.examine_bytes(), request.choose_bytes());
         for (call, bytes, stated) in [
-            (library::CHOOSE, &choose, 15_000),
+            (library::CHOOSE, &choose, 16_000),
             (library::EXAMINE, &examine, 2_000),
             (library::EXPLAIN, &examine, 2_000),
+            (library::CENSUS, &choose, 2_000),
         ] {
             let (_, taken) = stack_of(call, bytes, &mut [0; 512]);
             assert!(

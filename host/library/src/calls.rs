@@ -43,6 +43,10 @@ calls! {
     /// Writes the `FIGURES_LENGTH` bytes of the figures that the candidate of
     /// a request of `EXPLAIN_LENGTH` bytes is judged by.
     explain, EXPLAIN: pewgull_explain;
+
+    /// Examines every candidate for a request of `CHOOSE_LENGTH` bytes and
+    /// writes the `CENSUS_LENGTH` bytes of the counts of their answers.
+    census, CENSUS: pewgull_census;
 }
 
 fn call(function: Call, request: &[u8], page: &mut [u8]) -> (u32, u64) {

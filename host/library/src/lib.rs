@@ -1,12 +1,14 @@
 //! The proved calls over their C interface, and the bytes of a request.
 
 mod calls;
+mod census;
 mod figures;
 pub mod number;
 mod request;
 pub mod sheet;
 
-pub use calls::{choose, examine, explain, Call, CHOOSE, EXAMINE, EXPLAIN};
+pub use calls::{census, choose, examine, explain, Call, CENSUS, CHOOSE, EXAMINE, EXPLAIN};
+pub use census::{Census, CENSUS_LENGTH, COUNTED};
 pub use figures::{Figures, FIGURES_LENGTH};
 pub use request::{
     Candidate, Precipitant, PrimarySettling, Process, Reading, Removal, Request, TankFlow,

@@ -140,7 +140,7 @@ pub struct Candidate {
 }
 
 impl Request {
-    /// The bytes of a request to choose.
+    /// The bytes of a request to choose or for a census.
     pub fn to_choose(&self) -> [u8; CHOOSE_LENGTH] {
         let mut bytes = [0; CHOOSE_LENGTH];
         let (plant, readings) = bytes.split_at_mut(4 * PLANT_WORDS);

@@ -5,8 +5,8 @@ mod common;
 use common::{case_a, CASE_A_CANDIDATE, CASE_A_LISTING};
 use library::number::*;
 use library::sheet::{candidates, GRID, LINES};
-use library::{choose, examine, explain, Candidate, Figures, Request};
-use library::{TankFlow, CHOOSE_LENGTH, EXAMINE_LENGTH, FIGURES_LENGTH, PAGE_LENGTH};
+use library::{census, choose, examine, explain, Candidate, Census, Figures, Request, TankFlow};
+use library::{CENSUS_LENGTH, CHOOSE_LENGTH, COUNTED, EXAMINE_LENGTH, FIGURES_LENGTH, PAGE_LENGTH};
 
 const UNTOUCHED: u8 = 0xaa;
 
@@ -62,6 +62,69 @@ fn a_refused_explanation_is_zeros() {
 }
 
 #[test]
+fn the_census_of_case_a() {
+    let mut page = [UNTOUCHED; CENSUS_LENGTH];
+    let (number, written) = census(&case_a().to_choose(), &mut page);
+    assert_eq!((number, written), (SHEET, CENSUS_LENGTH as u64));
+    let counts = Census::from_page(&page);
+    assert_eq!(COUNTED.map(|k| counts.count(k)), [55_476, 27_600, 0, 0, 0]);
+    assert_eq!(counts.permitted(), 55_476);
+    assert_eq!((counts.count(32), counts.count(BAD_LENGTH)), (0, 0));
+}
+
+/// The eight bytes from 8 k on are the count for k.
+#[test]
+fn each_count_has_its_place() {
+    let mut page = [0; CENSUS_LENGTH];
+    for (place, count) in page.chunks_exact_mut(8).enumerate() {
+        count.copy_from_slice(&(1_000_000_007 * place as u64).to_le_bytes());
+    }
+    let counts = Census::from_page(&page);
+    assert!((0..32).all(|k| counts.count(k) == 1_000_000_007 * u64::from(k)));
+}
+
+/// Every candidate is counted, and at one of the five numbers.
+#[test]
+fn a_census_adds_up_to_the_grid() {
+    for tank in [TankFlow::Horizontal, TankFlow::Vertical] {
+        for (site_surface, site_depth) in [(1_000, 5_000), (400, 5_000), (1_000, 4_000)] {
+            let request = Request {
+                tank,
+                site_surface,
+                site_depth,
+                ..case_a()
+            };
+            let mut page = [UNTOUCHED; CENSUS_LENGTH];
+            census(&request.to_choose(), &mut page);
+            let counts = Census::from_page(&page);
+            let known: u64 = COUNTED.iter().map(|k| counts.count(*k)).sum();
+            assert_eq!(known, counts.total());
+            assert_eq!(known, u64::from(candidates(tank)));
+        }
+    }
+}
+
+#[test]
+fn a_refused_census_is_zeros() {
+    let mut page = [UNTOUCHED; PAGE_LENGTH];
+    assert_eq!(
+        census(&Request::default().to_choose(), &mut page),
+        (PLANT_DATA, CENSUS_LENGTH as u64)
+    );
+    assert_eq!(page[..CENSUS_LENGTH], [0; CENSUS_LENGTH]);
+    assert!(page[CENSUS_LENGTH..].iter().all(|&byte| byte == UNTOUCHED));
+}
+
+#[test]
+fn a_census_needs_its_page() {
+    let mut page = [UNTOUCHED; CENSUS_LENGTH - 1];
+    for request in [case_a(), Request::default()] {
+        assert_eq!(census(&request.to_choose(), &mut page), (SHORT_PAGE, 0));
+    }
+    assert_eq!(page, [UNTOUCHED; CENSUS_LENGTH - 1]);
+}
+
+#[test]
 fn a_short_page_is_left_alone() {
     let request = case_a().to_examine(CASE_A_CANDIDATE);
     let mut page = [UNTOUCHED; 55];
@@ -86,12 +149,15 @@ fn malformed_requests_have_their_codes() {
     assert_eq!(examine(&[], &mut page), (BAD_LENGTH, 0));
     assert_eq!(choose(&good, &mut page), (BAD_LENGTH, 0));
     assert_eq!(explain(&good[..CHOOSE_LENGTH], &mut page), (BAD_LENGTH, 0));
+    assert_eq!(census(&good, &mut page), (BAD_LENGTH, 0));
     let mut other_version = good;
     other_version[0] = 2;
     assert_eq!(examine(&other_version, &mut page), (BAD_VERSION, 0));
     let mut unknown_process = good;
     unknown_process[56] = 5;
     assert_eq!(examine(&unknown_process, &mut page), (BAD_KIND, 0));
+    let data = &unknown_process[..CHOOSE_LENGTH];
+    assert_eq!(census(data, &mut page), (BAD_KIND, 0));
     assert_eq!(page, [UNTOUCHED; PAGE_LENGTH]);
 }
 

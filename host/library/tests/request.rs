@@ -25,6 +25,7 @@ fn lengths_are_those_of_the_header_for_c() {
         assert!(header.contains(&line), "{line}");
     }
     assert_eq!(library::FIGURES_LENGTH, 56);
+    assert_eq!(library::CENSUS_LENGTH, 256);
 }
 
 #[test]

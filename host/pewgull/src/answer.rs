@@ -1,8 +1,10 @@
 //! The library's answers to the commands, as text and as members of JSON.
 
+use crate::census;
 use crate::explanation;
 use crate::json::{self, Member, Value};
 use library::number::{self, SHEET};
+use library::sheet::candidates;
 use library::{Candidate, Request, PAGE_LENGTH};
 
 /// The library's number, what an answer that is no refusal is called, and
@@ -38,11 +40,35 @@ fn listed(number: u32, listing: &[u8]) -> Answer {
     }
 }
 
+/// A refusal, as the library would list it.
+fn refused(number: u32) -> Answer {
+    listed(number, format!("refused {number}\n").as_bytes())
+}
+
+/// The answer of `census`: how many candidates are permitted, and how many
+/// each rule is the first to stop.
+pub fn census(request: &Request) -> Answer {
+    let counts = match census::counts(request) {
+        Err(number) => return refused(number),
+        Ok(counts) => counts,
+    };
+    let text: String = census::lines(&counts).map(|line| line + "\n").collect();
+    let mut members = json::members(&text);
+    let size = candidates(request.tank).into();
+    members.push(("candidates".to_string(), Value::Number(size)));
+    Answer {
+        number: SHEET,
+        kind: "census",
+        text: text.into_bytes(),
+        members,
+    }
+}
+
 /// The answer of `explain`: figures beside limits, and the verdict, which is
 /// the number that examining the candidate gives.
 pub fn explain(request: &Request, candidate: Candidate) -> Answer {
     let figures = match explanation::figures(request, candidate) {
-        Err(number) => return listed(number, format!("refused {number}\n").as_bytes()),
+        Err(number) => return refused(number),
         Ok(figures) => figures,
     };
     let verdict = figures.verdict as u32;

@@ -38,6 +38,11 @@ pub const COMMANDS: &[Form] = &[
         about: "prints the figures a candidate is judged by, beside their limits",
         action: Action::Candidate(answer::explain),
     },
+    Form {
+        name: "census",
+        about: "prints how many candidates are permitted, and how many each rule stops",
+        action: Action::Plants(answer::census),
+    },
 ];
 
 impl Form {

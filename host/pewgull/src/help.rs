@@ -1,10 +1,11 @@
 //! The short help, the whole manual and the versions, from the tables.
 
 use crate::arguments::COMMANDS;
+use crate::census;
 use crate::keys::{Field, HEADS, KEYS};
 use library::number;
 use library::sheet::{GRID, LINES};
-use library::{KIT, VERSION};
+use library::{COUNTED, KIT, VERSION};
 
 fn usage() -> String {
     let mut text = String::new();
@@ -39,7 +40,7 @@ fn grid() -> String {
 }
 
 const STATUS: &str = "\
-Exit status: 0 a sheet (explain: figures), 1 a refusal, 2 a file or usage error
+Exit status: 0 a sheet, figures or counts; 1 a refusal; 2 a file or usage error
 ";
 
 /// What `--help` prints: a screen.
@@ -63,6 +64,11 @@ pub fn manual() -> String {
     for line in LINES {
         text += &format!("  {:<14} {:<33} {}\n", line.label, line.meaning, line.unit);
     }
+    text += &format!(
+        "\nThe lines of a census\n  {}\n\
+         A candidate that is not permitted is counted at the first rule that it breaks.\n",
+        COUNTED.map(census::label).join(", ")
+    );
     text += "\nThe keys of a plant file\n";
     for key in &KEYS {
         let (name, meaning) = (key.name, key.meaning);

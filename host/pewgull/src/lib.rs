@@ -2,6 +2,7 @@
 
 pub mod answer;
 pub mod arguments;
+pub mod census;
 pub mod culprit;
 pub mod explanation;
 pub mod help;

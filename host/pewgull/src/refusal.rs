@@ -1,5 +1,6 @@
 //! What a refusal means, in words, and what to look at.
 
+use crate::census;
 use crate::culprit;
 use crate::explanation::{self, LEAST_SOLIDS, MOST_SLUDGE_VOLUME};
 use library::number::{self, *};
@@ -13,7 +14,7 @@ pub fn words(number: u32, request: &Request, candidate: Option<Candidate>) -> St
         NO_NUMBER => "the value of a reading is no number, or below zero".to_string(),
         READING_RANGE => "a head count or the result of a reading is outside its range".to_string(),
         COD_RATIO => "five times the COD is more than eleven times the BOD".to_string(),
-        NO_DESIGN => no_design(request.tank),
+        NO_DESIGN => no_design(request),
         OFF_GRID => off_grid(request.tank, candidate),
         _ => candidate.map_or_else(String::new, |candidate| {
             explanation::figures(request, candidate).map_or_else(
@@ -37,15 +38,16 @@ fn flow_name(tank: TankFlow) -> &'static str {
     }
 }
 
-fn no_design(tank: TankFlow) -> String {
-    let count = candidates(tank);
+/// The census, and what to look at first.
+fn no_design(request: &Request) -> String {
+    let count = candidates(request.tank);
+    let advice = census::counts(request).map(|counts| census::advice(&counts));
     format!(
-        "the grid holds {},{:03} candidates in {} flow, and none is permitted.\n  \
-         Look at single candidates: 'pewgull explain FILE F R H' shows which limits\n  \
-         they break (nitrate, solids, site-surface, site-depth)",
+        "the grid holds {},{:03} candidates in {} flow, and none is permitted.{}",
         count / 1000,
         count % 1000,
-        flow_name(tank)
+        flow_name(request.tank),
+        advice.unwrap_or_default()
     )
 }
 

@@ -2,10 +2,11 @@
 
 mod common;
 
-use common::{example, file, pewgull, with, CASE_A, CASE_A_LISTING};
+use common::{example, file, pewgull, replaced, with, CASE_A, CASE_A_LISTING};
 use std::fs::File;
 use std::process::{Command, Stdio};
 
+const NONE_PERMITTED: &str = "permitted 0\nnitrate 83076\nsolids 0\nsurface 0\ndepth 0\n";
 const CHOSEN: &str = "fraction 300\nreturn 73\nthickening 21\n";
 
 #[test]
@@ -188,6 +189,66 @@ fn no_design_counts_the_grid() {
 }
 
 #[test]
+fn census_counts_by_rule() {
+    let ran = pewgull(&["census", &example("case-a.plant")]);
+    let expected = "permitted 55476\nnitrate 27600\nsolids 0\nsurface 0\ndepth 0\n";
+    assert_eq!((ran.status, ran.out.as_str()), (0, expected));
+    assert_eq!(ran.err, "");
+    let none = example("weak-sewage-no-design.plant");
+    let ran = pewgull(&["census", &none, &none]);
+    let one = format!("# {none}\n{NONE_PERMITTED}");
+    assert_eq!((ran.status, ran.out), (0, one.repeat(2)));
+}
+
+#[test]
+fn a_refused_census() {
+    let path = file("census.plant", with("cod", "cod measured 440.1"));
+    let ran = pewgull(&["census", &path]);
+    assert_eq!((ran.status, ran.out.as_str()), (1, "refused 4\n"));
+    assert_eq!(ran.err, pewgull(&["choose", &path]).err);
+    assert!(ran.err.contains("(COD ratio)"), "{}", ran.err);
+}
+
+/// Lines that replace those of Case A, the counts of the census, and words of
+/// the advice.
+type NoDesign = (&'static str, [u32; 4], &'static [&'static str]);
+
+#[rustfmt::skip]
+const NO_DESIGNS: [NoDesign; 5] = [
+    ("nitrogen measured 100", [83_076, 0, 0, 0], &["first at nitrate, which stops the most:", "a looser nitrate-target"]),
+    ("site-surface 1", [27_600, 0, 55_476, 0], &["first at surface, which stops the most:", "a larger site-surface"]),
+    ("removal hopper\nsite-depth 3000", [27_600, 0, 0, 55_476], &["first at depth, which stops the most:", "a larger site-depth"]),
+    // nitrate stops more, and still it is the tank that nothing gets past
+    ("nitrogen measured 50\nsite-surface 1", [82_800, 0, 276, 0], &["first at surface, which stops the most of those that keep", "every tank is stopped"]),
+    ("nitrogen measured 100\nsite-surface 1", [83_076, 0, 0, 0], &["first at nitrate, which stops the most:"]),
+];
+
+#[test]
+fn no_design_tells_the_census_and_where_to_look() {
+    for (place, (lines, counts, words)) in NO_DESIGNS.iter().enumerate() {
+        let text = lines.lines().fold(CASE_A.to_string(), |text, line| {
+            let key = line.split_once(' ').unwrap().0;
+            replaced(&text, key, line)
+        });
+        let path = file(&format!("no-design-{place}.plant"), text);
+        let ran = pewgull(&["choose", &path]);
+        assert_eq!((ran.status, ran.out.as_str()), (1, "refused 5\n"));
+        let census = pewgull(&["census", &path]).out;
+        let [nitrate, solids, surface, depth] = counts;
+        let expected = format!(
+            "permitted 0\nnitrate {nitrate}\nsolids {solids}\nsurface {surface}\ndepth {depth}\n"
+        );
+        assert_eq!(census, expected);
+        let told = census.replace('\n', "\n  ");
+        assert!(ran.err.contains(&format!("\n  {told}Look")), "{}", ran.err);
+        for word in *words {
+            assert!(ran.err.contains(word), "{}", ran.err);
+        }
+        assert!(ran.err.lines().skip(1).all(|told| told.len() <= 80));
+    }
+}
+
+#[test]
 fn a_refused_explanation() {
     let ran = pewgull(&["explain", &example("case-a.plant"), "300", "76", "20"]);
     assert_eq!((ran.status, ran.out.as_str()), (1, "refused 6\n"));
@@ -217,10 +278,11 @@ fn several_files_have_headings_and_the_largest_status() {
 }
 
 #[rustfmt::skip]
-const USAGE_ERRORS: [(&str, &str); 10] = [
-    ("", "no command; expected choose, examine, explain or help"),
-    ("chose", "'chose' is no command; expected choose, examine, explain or help"),
+const USAGE_ERRORS: [(&str, &str); 11] = [
+    ("", "no command; expected choose, examine, explain, census or help"),
+    ("chose", "'chose' is no command; expected choose, examine, explain, census or help"),
     ("choose", "expected choose FILE..."),
+    ("census --json", "expected census FILE..."),
     ("choose --jsno F", "'--jsno' is no option; expected --json, --help or --version"),
     ("examine F", "expected examine FILE F R H, one file and three numbers (words given: 1)"),
     ("explain F 300 75", "expected explain FILE F R H"),

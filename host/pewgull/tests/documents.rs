@@ -4,7 +4,10 @@ mod common;
 
 use common::{pewgull, repository};
 use library::number;
-use library::sheet::{GRID, LINES};
+use library::sheet::{candidates, GRID, LINES};
+use library::{TankFlow, COUNTED};
+use pewgull::arguments::COMMANDS;
+use pewgull::census::label;
 use pewgull::keys::{Field, HEADS, KEYS};
 use std::fs;
 
@@ -125,6 +128,51 @@ fn numbers() {
 }
 
 #[test]
+fn commands() {
+    let readme = document("README.md");
+    let help = pewgull(&["help"]).out;
+    for form in COMMANDS {
+        let line = format!(" pewgull {:<7} [--json] {}", form.name, form.words());
+        has(&readme, "README.md", &line);
+        has(&help, "help", &line);
+        has(
+            &help,
+            "help",
+            &format!("\n{:<8} {}\n", form.name, form.about),
+        );
+    }
+}
+
+/// The counts of a census at their bytes, their lines, and the example.
+#[test]
+fn census() {
+    let header = plain(&document("include/pewgull.h"));
+    for number in COUNTED {
+        let (from, word) = (8 * number, label(number));
+        let row = match number {
+            number::SHEET => format!(" 0..7 {word} (0) "),
+            _ => format!(" {from}..{} refused for {word} ({number}) ", from + 7),
+        };
+        has(&header, "the header", &row);
+    }
+    let lines = COUNTED.map(label).join(", ");
+    has(&pewgull(&["help"]).out, "help", &lines);
+    for tank in [TankFlow::Horizontal, TankFlow::Vertical] {
+        let count = candidates(tank);
+        let count = format!("{},{:03}", count / 1000, count % 1000);
+        has(&header, "the header", &count);
+    }
+    let plant = "examples/weak-sewage-no-design.plant";
+    let ran = pewgull(&["census", repository().join(plant).to_str().unwrap()]);
+    let shown = format!("    $ pewgull census {plant}\n{}", ran.out);
+    has(
+        &document("README.md"),
+        "README.md",
+        shown.trim_end().replace('\n', "\n    ").as_str(),
+    );
+}
+
+#[test]
 fn lengths() {
     let header = plain(&document("include/pewgull.h"));
     for (name, value) in [
@@ -134,6 +182,7 @@ fn lengths() {
         ("EXPLAIN_LENGTH", library::EXPLAIN_LENGTH),
         ("PAGE_LENGTH", library::PAGE_LENGTH),
         ("FIGURES_LENGTH", library::FIGURES_LENGTH),
+        ("CENSUS_LENGTH", library::CENSUS_LENGTH),
     ] {
         has(
             &header,

@@ -97,6 +97,26 @@ fn figures_and_limits() {
     assert!(listing(kept.out.trim_end()).ends_with("\nverdict 0\nword sheet\n"));
 }
 
+#[test]
+fn a_census() {
+    let path = example("case-a.plant");
+    let ran = pewgull(&["census", "--json", &path]);
+    let expected = format!(
+        "file {path}\nstatus census\npermitted 55476\nnitrate 27600\n\
+        solids 0\nsurface 0\ndepth 0\ncandidates 83076\n"
+    );
+    assert_eq!((ran.status, listing(ran.out.trim_end())), (0, expected));
+    let refused = file("json-census.plant", "load 0\n".to_string() + &CASE_A[10..]);
+    let ran = pewgull(&["census", "--json", &refused]);
+    assert_eq!(ran.status, 1);
+    let start = format!("file {refused}\nstatus refused\nnumber 1\nword plant data\nmessage ");
+    assert!(
+        listing(ran.out.trim_end()).starts_with(&start),
+        "{}",
+        ran.out
+    );
+}
+
 /// One object for each file, whatever comes of it.
 #[test]
 fn each_file_has_its_object() {

@@ -1,4 +1,4 @@
-//! Choosing by the plain sweep over the grid.
+//! Choosing, and the census, by the plain sweep over the grid.
 
 use crate::examine::{design, most_return, Candidate};
 use crate::plant::Plant;
@@ -34,14 +34,15 @@ fn better(best: Option<Sheet>, next: Sheet) -> Option<Sheet> {
     }
 }
 
-/// Acceptance, then the first of all permitted candidates.
-pub fn choose(plant: &Plant, readings: &[Reading; 5]) -> Answer {
-    let accepted = match accept(plant, readings) {
-        Ok(accepted) => accepted,
-        Err(number) => return Answer::Refused(number),
-    };
+/// Acceptance, then every candidate of the grid in turn: its sheet, or the
+/// number of its refusal.
+fn sweep(
+    plant: &Plant,
+    readings: &[Reading; 5],
+    mut each: impl FnMut(Result<Sheet, u8>),
+) -> Result<(), u8> {
+    let accepted = accept(plant, readings)?;
     let roots = cube_roots();
-    let mut best = None;
     for fraction in 200..=500 {
         for return_ratio in 30..=most_return(plant.tank_flow) {
             for thickening in 20..=25 {
@@ -51,14 +52,38 @@ pub fn choose(plant: &Plant, readings: &[Reading; 5]) -> Answer {
                     thickening,
                 };
                 let root = roots[thickening as usize - 20];
-                if let Ok(sheet) = design(plant, &accepted, candidate, root) {
-                    best = better(best, sheet);
-                }
+                each(design(plant, &accepted, candidate, root));
             }
         }
     }
-    match best {
-        Some(sheet) => Answer::Sheet(sheet),
-        None => Answer::Refused(refusal::NO_DESIGN),
+    Ok(())
+}
+
+/// The first of all permitted candidates, or a refusal.
+pub fn choose(plant: &Plant, readings: &[Reading; 5]) -> Answer {
+    let mut best = None;
+    let swept = sweep(plant, readings, |examined| {
+        if let Ok(sheet) = examined {
+            best = better(best, sheet);
+        }
+    });
+    match (swept, best) {
+        (Err(number), _) => Answer::Refused(number),
+        (Ok(()), Some(sheet)) => Answer::Sheet(sheet),
+        (Ok(()), None) => Answer::Refused(refusal::NO_DESIGN),
     }
+}
+
+/// Numbers that a census counts: 0 to 31.
+pub const COUNTED: usize = 32;
+
+/// How many candidates of the grid are answered with each number, 0 for a
+/// sheet, or the refusal 1 to 4.
+pub fn census(plant: &Plant, readings: &[Reading; 5]) -> Result<[u64; COUNTED], u8> {
+    let mut counts = [0; COUNTED];
+    sweep(plant, readings, |examined| {
+        let number = examined.err().unwrap_or(0);
+        counts[usize::from(number)] += 1;
+    })?;
+    Ok(counts)
 }

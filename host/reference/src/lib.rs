@@ -20,7 +20,7 @@ pub mod sheet;
 pub mod sludge;
 pub mod stages;
 
-pub use choose::choose;
+pub use choose::{census, choose};
 pub use examine::{examine, Candidate};
 pub use listing::{listing, write};
 pub use plant::{Plant, Precipitant, PrimarySettling, Process, Removal, Steps, TankFlow};

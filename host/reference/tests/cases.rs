@@ -1,5 +1,7 @@
 //! Tests of the reference implementation.
 
+#[path = "cases/census.rs"]
+mod census;
 #[path = "cases/common.rs"]
 mod common;
 #[path = "cases/errors.rs"]

@@ -1,5 +1,6 @@
-//! Choices and examinations per second of the library and of the reference,
-//! on the same plants, and the stack that a call takes.
+//! Choices, censuses and examinations per second of the library and of the
+//! reference, on the same plants, the time of a census beside that of a
+//! choice, and the stack that a call takes.
 
 use cases::model;
 use cases::plants;
@@ -14,6 +15,8 @@ use std::time::{Duration, Instant};
 const ROUNDS: usize = 5;
 /// Least time of a measurement.
 const LEAST_TIME: Duration = Duration::from_millis(300);
+/// Calls of which the least time is taken.
+const ALTERNATIONS: usize = 1_000;
 
 fn chosen(request: &Request) -> u32 {
     library::choose(&request.choose_bytes(), &mut [0; PAGE]).0
@@ -84,16 +87,62 @@ fn row(name: &str, (library, reference): (f64, f64)) {
     println!("{name:<26}{library:>14.0}{reference:>14.0}{ratio:>9.1}");
 }
 
-/// Rates of choosing for plants of one tank flow, with or without a design.
-fn choices(name: &str, plants: &[Request], wanted: impl Fn(&Request) -> bool) {
-    let some: Vec<Vec<u8>> = plants
+/// The requests to choose of some plants.
+fn requests(plants: &[Request], wanted: impl Fn(&Request) -> bool) -> Vec<Vec<u8>> {
+    plants
         .iter()
         .filter(|plant| wanted(plant))
         .map(Request::choose_bytes)
-        .collect();
-    let by_library = |request: &[u8]| library::choose(request, &mut [0; PAGE]).0;
+        .collect()
+}
+
+fn choice(request: &[u8]) -> u32 {
+    library::choose(request, &mut [0; PAGE]).0
+}
+
+fn census(request: &[u8]) -> u32 {
+    library::census(request, &mut [0; PAGE]).0
+}
+
+/// Rates of choosing for plants of one tank flow, with or without a design.
+fn choices(name: &str, plants: &[Request], wanted: impl Fn(&Request) -> bool) {
+    let some = requests(plants, wanted);
     let by_reference = |request: &[u8]| model::choose(request, PAGE).number;
-    row(name, rates(&some, by_library, by_reference));
+    row(name, rates(&some, choice, by_reference));
+}
+
+fn censuses(plants: &[Request]) {
+    let all = requests(plants, |_| true);
+    let by_reference = |request: &[u8]| model::census(request, PAGE).number;
+    row("census", rates(&all, census, by_reference));
+}
+
+/// The least times of a choice and of a census, of alternating calls: other
+/// work on the machine can only add to them.
+fn least_times(request: &[u8]) -> [Duration; 2] {
+    let calls: [fn(&[u8]) -> u32; 2] = [choice, census];
+    let mut least = [Duration::MAX; 2];
+    for _ in 0..ALTERNATIONS {
+        for (least, call) in least.iter_mut().zip(calls) {
+            let start = Instant::now();
+            black_box(call(black_box(request)));
+            *least = start.elapsed().min(*least);
+        }
+    }
+    least
+}
+
+/// The time of a census in hundredths of that of a choice, over some plants.
+fn census_beside_choice(name: &str, plants: &[Request], wanted: impl Fn(&Request) -> bool) -> f64 {
+    let mut all = [Duration::ZERO; 2];
+    for request in requests(plants, wanted) {
+        for (all, time) in all.iter_mut().zip(least_times(&request)) {
+            *all += time;
+        }
+    }
+    let share = 100.0 * all[1].as_secs_f64() / all[0].as_secs_f64();
+    println!("census, {name}: {share:.0}% of the time of a choice");
+    share
 }
 
 fn examinations(plants: &[Request]) {
@@ -105,7 +154,7 @@ fn examinations(plants: &[Request]) {
 
 /// The most stack that a call takes over all plants.
 fn stacks(plants: &[Request]) {
-    let mut most = [0; 3];
+    let mut most = [0; 4];
     let mut page = [0; PAGE];
     for plant in plants {
         let (examine, choose) = (plant.examine_bytes(), plant.choose_bytes());
@@ -113,6 +162,7 @@ fn stacks(plants: &[Request]) {
             stack_of(library::CHOOSE, &choose, &mut page),
             stack_of(library::EXAMINE, &examine, &mut page),
             stack_of(library::EXPLAIN, &examine, &mut page),
+            stack_of(library::CENSUS, &choose, &mut page),
         ];
         assert_eq!(taken[0].0, chosen(plant));
         for (most, (_, bytes)) in most.iter_mut().zip(taken) {
@@ -120,8 +170,8 @@ fn stacks(plants: &[Request]) {
         }
     }
     println!(
-        "stack, bytes: choose {}, examine {}, explain {}",
-        most[0], most[1], most[2]
+        "stack, bytes: choose {}, examine {}, explain {}, census {}",
+        most[0], most[1], most[2], most[3]
     );
 }
 
@@ -146,6 +196,11 @@ fn main() {
     choices("choose, without a design", &plants, |plant| {
         !with_design(plant)
     });
+    censuses(&plants);
     examinations(&plants);
     stacks(&plants);
+    census_beside_choice("with a design", &plants, with_design);
+    census_beside_choice("without a design", &plants, |plant| !with_design(plant));
+    let share = census_beside_choice("all plants", &plants, |_| true);
+    assert!(share <= 100.0, "a census is to be no slower than a choice");
 }

@@ -38,10 +38,14 @@ phosphorus measured 8
 
 /// Case A with the line of a key replaced by these lines.
 pub fn with(key: &str, lines: &str) -> String {
+    replaced(CASE_A, key, lines)
+}
+
+/// A plant file with the line of a key replaced by these lines.
+pub fn replaced(text: &str, key: &str, lines: &str) -> String {
     let start = format!("{key} ");
-    assert!(CASE_A.lines().any(|line| line.starts_with(&start)), "{key}");
-    CASE_A
-        .lines()
+    assert!(text.lines().any(|line| line.starts_with(&start)), "{key}");
+    text.lines()
         .map(|line| {
             if line.starts_with(&start) {
                 lines
