@@ -2,12 +2,14 @@
 use mathlib.Core.Path.{_≡_, ap, sym, _∙_}
 use mathlib.Core.Bool.{true, false}
 use mathlib.Core.List.{_++_}
-use Rattle.rules.specs.Rules.{verdict}
+use Rattle.rules.specs.Rules.{verdict, after}
 use Rattle.rules.specs.AgeNitrate.{onGrid}
 use Rattle.rules.specs.ReactorSteps.{reactorOf}
 use Rattle.rules.specs.SettlingSteps.{settlingOf}
 use Rattle.rules.specs.AerationSteps.{aerationOf}
 use Rattle.rules.specs.Examining.{fractionRules, tankRules, candidateRules, answerBy, judge, sheetOf, sheetFrom}
+use Rattle.rules.proofs.RuleLists.{verdict-append}
+use Rattle.examining.specs.Stages.{judgeTank}
 use Rattle.rules.specs.declared.Plant.{Plant}
 use Rattle.rules.specs.declared.Concentrations.{Concentrations}
 use Rattle.rules.specs.declared.Candidate.{Candidate}
@@ -24,16 +26,34 @@ module _ (p : Plant) (x : Concentrations) (y : Candidate) where
   unfolding judge candidateRules answerBy
   off-grid e = rw e
 
-  module _ (grid : onGrid (p .tank) y ≡ true) (r : Reactor) (s : Settling) (v : Verdict) (er : r ≡ reactorOf p x (y .fraction)) (es : s ≡ settlingOf p (y .«return_ratio») (y .thickening)) (ev : v ≡ verdict (fractionRules r ++ tankRules p s)) where
-    -- on the grid the verdict on 7 to 10 decides
-    decided : judge p x y ≡ answerBy v (sheetOf p x y)
+  abbrev settled : Settling
+  settled = settlingOf p (y .«return_ratio») (y .thickening)
+
+  module _ (grid : onGrid (p .tank) y ≡ true) (r : Reactor) (er : r ≡ reactorOf p x (y .fraction)) where
+    -- on the grid the verdicts on the fraction and on the tank decide, one after the other
+    decided : judge p x y ≡ answerBy (after (verdict (fractionRules r)) (verdict (tankRules p settled))) (sheetOf p x y)
     unfolding judge candidateRules
-    decided = rw (grid, ← er, ← es) (ap (λ (w : Verdict). answerBy w (sheetOf p x y)) (sym ev))
+    decided = rw (grid, ← er) (ap (λ (w : Verdict). answerBy w (sheetOf p x y)) (verdict-append (fractionRules r) (tankRules p settled)))
 
-    pub broken : (n : Refusal) → v ≡ Verdict.Broken n → Answer.Refused n ≡ judge p x y
+    pub fraction-broken : (n : Refusal) → verdict (fractionRules r) ≡ Verdict.Broken n → Answer.Refused n ≡ judge p x y
     unfolding answerBy
-    broken n e = sym (decided ∙ rw e)
+    fraction-broken n e = sym (decided ∙ rw e)
 
-    pub kept : v ≡ Verdict.Kept → (a : Aeration) (t : Sheet) → a ≡ aerationOf p x r → t ≡ sheetFrom p y r s a → Answer.Designed t ≡ judge p x y
-    unfolding answerBy sheetOf
-    kept e a t ea et = sym (decided ∙ rw (e, ← er, ← es) (ap Answer.Designed (sym (et ∙ ap (sheetFrom p y r s) ea))))
+    pub to-the-tank : verdict (fractionRules r) ≡ Verdict.Kept → judgeTank p x y ≡ judge p x y
+    unfolding judgeTank
+    to-the-tank e = sym (decided ∙ rw e)
+
+  module _ (s : Settling) (es : s ≡ settled) where
+    pub tank-broken : (n : Refusal) → verdict (tankRules p s) ≡ Verdict.Broken n → Answer.Refused n ≡ judgeTank p x y
+    unfolding judgeTank answerBy
+    tank-broken n e = rw (← es, e)
+
+    pub kept :
+        verdict (tankRules p s) ≡ Verdict.Kept
+        → (r : Reactor) (a : Aeration) (t : Sheet)
+        → r ≡ reactorOf p x (y .fraction)
+        → a ≡ aerationOf p x r
+        → t ≡ sheetFrom p y r s a
+        → Answer.Designed t ≡ judgeTank p x y
+    unfolding judgeTank answerBy sheetOf
+    kept e r a t er ea et = rw (← es, e, ← er) (ap Answer.Designed (et ∙ ap (sheetFrom p y r s) ea))

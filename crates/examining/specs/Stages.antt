@@ -1,14 +1,16 @@
--- What a candidate on the grid is judged by, for the contract of the inner function. Assumes nothing.
+-- What a candidate on the grid is judged by, for the contracts of the inner functions. Assumes nothing.
 use mathlib.Core.Path.{_≡_}
 use mathlib.Core.List.{_++_}
 use Rattle.rules.specs.Rules.{verdict}
 use Rattle.rules.specs.ReactorSteps.{reactorOf}
 use Rattle.rules.specs.SettlingSteps.{settlingOf}
 use Rattle.rules.specs.Ranges.{ReactorBounds, SettlingBounds}
-use Rattle.rules.specs.Examining.{fractionRules, tankRules}
+use Rattle.rules.specs.Examining.{fractionRules, tankRules, answerBy, sheetOf}
 use Rattle.rules.specs.declared.Plant.{Plant}
 use Rattle.rules.specs.declared.Concentrations.{Concentrations}
 use Rattle.rules.specs.declared.Candidate.{Candidate}
+use Rattle.rules.specs.declared.Reactor.{Reactor}
+use Rattle.rules.specs.declared.Answer.{Answer}
 use Rattle.examining.specs.declared.Stages.{Stages}
 
 -- the stages are the steps', within their limits, and the verdict is that on the rules 7 to 10
@@ -18,3 +20,12 @@ pub record StagesOf (p : Plant) (x : Concentrations) (y : Candidate) (s : Stages
   pub verdict : s .verdict ≡ verdict (fractionRules (s .reactor) ++ tankRules p (s .settling))
   pub reactorBounds : ReactorBounds (s .reactor)
   pub settlingBounds : SettlingBounds (s .settling)
+
+-- the reactor of a candidate, within its limits
+pub record ReactorAt (p : Plant) (x : Concentrations) (y : Candidate) (r : Reactor) : Type 0 where
+  pub value : r ≡ reactorOf p x (y .fraction)
+  pub bounds : ReactorBounds r
+
+-- a candidate on the grid whose fraction keeps its rules: what the tank's verdict makes of its sheet
+unfoldable pub judgeTank : Plant → Concentrations → Candidate → Answer
+judgeTank p x y = answerBy (verdict (tankRules p (settlingOf p (y .«return_ratio») (y .thickening)))) (sheetOf p x y)

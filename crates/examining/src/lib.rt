@@ -17,7 +17,7 @@ ghost use Rattle.rules.specs.AgeNitrate.{largestReturnRatio, onGrid};
 ghost use Rattle.rules.specs.Limits.{mostRatio};
 ghost use Rattle.rules.specs.Ranges.{Between, OnGrid, PlantRanges, ConcentrationRanges, ReactorBounds, SettlingBounds};
 ghost use Rattle.rules.specs.Examining.{sheetFrom, judge, examine};
-ghost use Rattle.examining.specs.Stages.{StagesOf};
+ghost use Rattle.examining.specs.Stages.{StagesOf, ReactorAt, judgeTank};
 ghost use Rattle.rules.specs.TwoColumns.{TwoColumns};
 
 // What a candidate on the grid is judged by.
@@ -105,7 +105,31 @@ fn sheet_from(
     }
 }
 
-// A candidate of accepted data: the refusal of the first rule of 6 to 10 that it breaks, else its sheet.
+// A candidate on the grid whose fraction keeps its rules: the tank's verdict, else its sheet.
+fn judge_tank(
+    plant: Plant,
+    concentrations: Concentrations,
+    candidate: Candidate,
+    reactor: Reactor,
+) -> Answer
+    requires { ⌜ PlantRanges plant × ConcentrationRanges concentrations × OnGrid candidate × ReactorAt plant concentrations candidate reactor ⌝ }
+    ensures { λ r. ⌜ r ≡ judgeTank plant concentrations candidate ⌝ }
+{
+    let ratio = candidate.return_ratio;
+    let time = candidate.thickening;
+    let bottom = settling::bottom_sludge(plant.sludge_volume_index, time);
+    let settling = settling::settling(plant, ratio, time, bottom);
+    match settling::tank_verdict(plant, settling) {
+        Verdict::Broken(refusal) => Answer::Refused(refusal),
+        Verdict::Kept => {
+            let aeration = aeration::aeration(plant, concentrations, reactor);
+            Answer::Designed(sheet_from(plant, candidate, reactor, settling, aeration))
+        }
+    }
+}
+
+// A candidate of accepted data: the refusal of the first rule of 6 to 10 that it breaks, else its sheet. The tank is
+// computed only where the fraction keeps its rules.
 pub fn judge(plant: Plant, concentrations: Concentrations, candidate: Candidate) -> Answer
     requires { ⌜ PlantRanges plant × ConcentrationRanges concentrations ⌝ }
     ensures { λ r. ⌜ r ≡ judge plant concentrations candidate ⌝ }
@@ -114,16 +138,10 @@ pub fn judge(plant: Plant, concentrations: Concentrations, candidate: Candidate)
     if !on_grid(tank, candidate) {
         return Answer::Refused(Refusal::OffGrid);
     }
-    let stages = stages_of(plant, concentrations, candidate);
-    let reactor = stages.reactor;
-    let settling = stages.settling;
-    let verdict = stages.verdict;
-    match verdict {
+    let reactor = reactor::reactor(plant, concentrations, candidate.fraction);
+    match reactor::fraction_verdict(reactor) {
         Verdict::Broken(refusal) => Answer::Refused(refusal),
-        Verdict::Kept => {
-            let aeration = aeration::aeration(plant, concentrations, reactor);
-            Answer::Designed(sheet_from(plant, candidate, reactor, settling, aeration))
-        }
+        Verdict::Kept => judge_tank(plant, concentrations, candidate, reactor),
     }
 }
 

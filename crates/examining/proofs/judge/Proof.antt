@@ -6,8 +6,9 @@ use mathlib.Core.Bool.{true}
 use lib.Dec.{T}
 use borrow.Author.Tests.{not-true, not-false}
 use Rattle.rules.specs.AgeNitrate.{onGrid}
+use Rattle.rules.specs.Ranges.{OnGrid}
 use Rattle.rules.proofs.RangeFacts.{on-grid}
-use Rattle.examining.proofs.Verdicts.{off-grid, broken, kept}
+use Rattle.examining.proofs.Verdicts.{off-grid, fraction-broken, to-the-tank}
 use Rattle.examining.proofs.judge.Statement.{statement}
 use Rattle.examining.proofs.judge.Tie as tie
 
@@ -21,35 +22,38 @@ returns c =
     off-grid (start .args .plant) (start .args .concentrations) (start .args .candidate)
     (sym (c .before .on-grid .ensures) ∙ not-true (c .before .on-grid .result) (c .if1 .taken))
 
-stages-of-requires : tie.Need-stages-of-requires
-stages-of-requires c κs =
-    let start = c .before .before in
-    (start .pre .0, start .pre .1, on-grid (start .args .plant .tank) (start .args .candidate) (subst T (sym (passed c)) tt))
+inside : (c : tie.Else1) → OnGrid (c .before .before .args .candidate)
+inside c = on-grid (c .before .before .args .plant .tank) (c .before .before .args .candidate) (subst T (sym (passed c)) tt)
+
+reactor-requires : tie.Need-reactor-requires
+reactor-requires c κs = (c .before .before .pre .0, c .before .before .pre .1, inside c .fraction)
+
+judge-tank-requires : tie.Need-judge-tank-requires
+judge-tank-requires c κs =
+    let reacted = c .before .before .before in
+    let start = reacted .before .before .before in
+    (start .pre .0, start .pre .1, inside (reacted .before), record { value = reacted .reactor .ensures .0; bounds = reacted .reactor .ensures .1 })
 
 returns-2 : tie.Need-returns-2
 returns-2 c =
-    let staged = c .before .before .before .before .before in
-    let start = staged .before .before .before in
-    let known = staged .stages-of .ensures in
-    broken (start .args .plant) (start .args .concentrations) (start .args .candidate) (passed (staged .before))
-    (staged .stages-of .result .reactor) (staged .stages-of .result .settling) (staged .stages-of .result .verdict)
-    (known .reactor) (known .settling) (known .verdict)
-    (c .before .verdict .given .0 .0)
-    (c .before .verdict .given .1)
+    let judged = c .before .before .before in
+    let reacted = judged .before in
+    let start = reacted .before .before .before in
+    fraction-broken (start .args .plant) (start .args .concentrations) (start .args .candidate) (passed (reacted .before))
+    (reacted .reactor .result) (reacted .reactor .ensures .0)
+    (c .before .refusal .given .0 .0)
+    (sym (judged .fraction-verdict .ensures) ∙ c .before .refusal .given .1)
 
 returns-3 : tie.Need-returns-3
 returns-3 c =
-    let told = c .before .before in
-    let staged = told .before .before .before .before in
-    let start = staged .before .before .before in
-    let known = staged .stages-of .ensures in
-    kept (start .args .plant) (start .args .concentrations) (start .args .candidate) (passed (staged .before))
-    (staged .stages-of .result .reactor) (staged .stages-of .result .settling) (staged .stages-of .result .verdict)
-    (known .reactor) (known .settling) (known .verdict)
-    (told .enum-told .given .1)
-    (c .before .aeration .result) (c .sheet-from .result)
-    (c .before .aeration .ensures)
-    (c .sheet-from .ensures)
+    let told = c .before in
+    let judged = told .before .before in
+    let reacted = judged .before in
+    let start = reacted .before .before .before in
+    c .judge-tank .ensures
+    ∙ to-the-tank (start .args .plant) (start .args .concentrations) (start .args .candidate) (passed (reacted .before))
+    (reacted .reactor .result) (reacted .reactor .ensures .0)
+    (sym (judged .fraction-verdict .ensures) ∙ told .enum-told .given .1)
 
 pub judge-spec : {M : Type 1} → statement M
 judge-spec =
@@ -57,10 +61,10 @@ judge-spec =
     (tie.spec
     (λ c κs. search needs)
     returns
-    stages-of-requires
+    reactor-requires
+    (λ c κs. search needs)
     (λ c. search needs)
     (λ c. search needs)
-    (λ c κs. search needs)
-    (λ c κs. search needs)
+    judge-tank-requires
     returns-2
     returns-3)
