@@ -1,21 +1,21 @@
 /*
  * Pewgull: dimensioning of single-stage activated sludge plants with nitrogen
- * removal. Four calls, for x86-64 and its C calling convention (System V).
+ * removal. Five calls, for x86-64 and its C calling convention (System V).
  *
- * Each call takes the bytes of a request, writes on a page that the caller
- * lends, stores the number of bytes written in *written, and gives a number.
- * Later bytes of the page stay unchanged. No call allocates memory, keeps
- * anything between calls, or reads or writes anything else: several threads
- * may call at once, each with memory of its own. A choice takes 16 kB of
- * stack, the other calls 2 kB. The archive needs memcpy and memset, and
- * nothing more.
+ * Each call takes the bytes of a request, or of a day log, writes on a page
+ * that the caller lends, stores the number of bytes written in *written, and
+ * gives a number. Later bytes of the page stay unchanged. No call allocates
+ * memory, keeps anything between calls, or reads or writes anything else:
+ * several threads may call at once, each with memory of its own. A choice
+ * takes 16 kB of stack, the other calls 2 kB. The archive needs memcpy and
+ * memset, and nothing more.
  *
  * What the caller sees to
- *   - request points to request_length readable bytes; page points to
- *     page_length writable bytes; written points to a uint64_t. None of the
- *     three is a null pointer, also where a length is 0.
- *   - The page and *written overlap neither the request nor each other.
- *   - No alignment is needed for the request or the page.
+ *   - request points to request_length readable bytes, log to log_length;
+ *     page points to page_length writable bytes; written points to a
+ *     uint64_t. None of them is a null pointer, also where a length is 0.
+ *   - The page and *written overlap neither the request or log nor each other.
+ *   - No alignment is needed for the request, the log or the page.
  *
  * The request, version 1: 32-bit unsigned numbers, little-endian, no padding.
  * Data outside their ranges are refused with a number; every other number is
@@ -104,8 +104,11 @@ extern "C" {
 /* Bytes that pewgull_census writes, and the least length of its page. */
 #define PEWGULL_CENSUS_LENGTH 256
 
+/* Bytes that pewgull_load writes, and the least length of its page. */
+#define PEWGULL_LOAD_PAGE 16
+
 /* Numbers that the calls give. */
-#define PEWGULL_SHEET 0          /* a sheet, figures or counts */
+#define PEWGULL_SHEET 0          /* a sheet, figures, counts or a load */
 #define PEWGULL_PLANT_DATA 1     /* a plant or site figure outside its range */
 #define PEWGULL_NO_NUMBER 2      /* a reading not finite, or below zero */
 #define PEWGULL_READING_RANGE 3  /* a head count or a result outside its range */
@@ -117,6 +120,8 @@ extern "C" {
 #define PEWGULL_SURFACE 9        /* settling surface above the site's */
 #define PEWGULL_DEPTH 10         /* settling depth above the site's */
 #define PEWGULL_SHORT_PAGE 11    /* page too short: nothing written */
+#define PEWGULL_DAY_LOG 12       /* a day log of another count or length */
+#define PEWGULL_DAY_VALUE 13     /* a value of a day not finite, below zero or too large */
 #define PEWGULL_BAD_LENGTH 101   /* request of another length: nothing written */
 #define PEWGULL_BAD_VERSION 102  /* request of another version: nothing written */
 #define PEWGULL_BAD_KIND 103     /* an unknown kind in a request: nothing written */
@@ -189,6 +194,36 @@ uint32_t pewgull_explain(const uint8_t *request, size_t request_length,
 uint32_t pewgull_census(const uint8_t *request, size_t request_length,
                         uint8_t *page, size_t page_length,
                         uint64_t *written);
+
+/*
+ * Finds in a day log the highest load over 14 consecutive days. The log is
+ * 32-bit words, little-endian, no padding, for n days of 14..3660:
+ *
+ *   bytes             what
+ *   0..3              n, the count of days
+ *   4..4n+3           flow of each day, the bits of a binary32 in m3/d
+ *   4n+4..8n+3        BOD of each day, the bits of a binary32 in mg/l
+ *
+ * Each value is turned into thousandths as a measured reading is; a flow may
+ * then be at most 200000 m3/d, a BOD at most 2000 mg/l. The load of a day is
+ * their product, in millionths of g/d. Gives 0 and writes PEWGULL_LOAD_PAGE
+ * bytes, two 64-bit unsigned numbers, little-endian:
+ *
+ *   bytes    what
+ *   0..7     sum: the largest sum of 14 consecutive daily loads
+ *   8..15    day: the first day, counted from 1, on which such days start
+ *
+ * Gives 12 where n is outside its range or the log is not of 4 + 8 n bytes,
+ * or else 13 where a value is not finite, below zero or too large, and writes
+ * 16 bytes of zeros. Gives 11 for a page of fewer than 16 bytes, whatever the
+ * log, and writes nothing; never 101 to 103.
+ *
+ * For word 1 of a request take the mean of the 14 daily loads: the sum divided
+ * by 14 and by 1,000,000,000, rounded up to a whole kg/d.
+ */
+uint32_t pewgull_load(const uint8_t *log, size_t log_length,
+                      uint8_t *page, size_t page_length,
+                      uint64_t *written);
 
 #ifdef __cplusplus
 }

@@ -8,11 +8,13 @@ use Rattle.rules.specs.Examining.{examine}
 use Rattle.rules.specs.Choosing.{Chosen}
 use Rattle.rules.specs.Explaining.{explain}
 use Rattle.rules.specs.Census.{census}
+use Rattle.rules.specs.DayLog.{twoWeekLoad, loadNumber, loadOf, loadFigures}
 use Rattle.rules.specs.declared.Candidate.{Candidate}
 use Rattle.rules.specs.declared.Answer.{Answer}
 use Rattle.rules.specs.declared.Census.{Census}
 use Rattle.rules.specs.declared.Written.{Written}
 use Rattle.rules.specs.declared.Explanation.{Explanation}
+use Rattle.rules.specs.declared.LoadAnswer.{LoadAnswer}
 use Rattle.words.specs.Bytes.{numberBytes}
 use Rattle.request.specs.Layout.{candidateWords, decode, askedCandidate, faultNumber}
 use Rattle.request.specs.declared.Fault.{Fault}
@@ -87,3 +89,10 @@ censusAt page x = countsPut (census (x .plant) (x .readings)) page
 
 unfoldable pub censused : List ℕ → List ℕ → Outcome
 censused bytes page = onData (censusAt page) page (decode bytes 0)
+
+-- a day log: its answer's load on a page, with the number 0, or zeros with 12 or 13
+abbrev pub loadPut : LoadAnswer → List ℕ → Outcome
+loadPut answer page = putOn (loadNumber answer) (numberBytes (loadFigures (loadOf answer))) page
+
+unfoldable pub loaded : List ℕ → List ℕ → Outcome
+loaded log page = loadPut (twoWeekLoad log) page

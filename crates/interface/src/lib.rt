@@ -5,14 +5,17 @@ use rules::Answer;
 use rules::Census;
 use rules::Explained;
 use rules::Explanation;
+use rules::LoadAnswer;
 use rules::Refusal;
+use rules::TwoWeekLoad;
 use rules::Verdict;
 use rules::Written;
 ghost use mathlib.Core.Path.{_≡_};
 ghost use Prim.Native.Nat.{_≤_};
 ghost use Rattle.rules.specs.Answers.{refusalNumber, answerNumber, verdictNumber, explanationNumber, explanationFigures};
+ghost use Rattle.rules.specs.DayLog.{loadNumber, loadOf};
 ghost use Rattle.words.specs.Bytes.{numberBytes};
-ghost use Rattle.interface.specs.Calls.{outcome, putOn, answered, examined, Choosing, figured, explained, countsPut, censused};
+ghost use Rattle.interface.specs.Calls.{outcome, putOn, answered, examined, Choosing, figured, explained, countsPut, censused, loaded};
 
 // The paper's number of a refusal.
 fn refusal_number(refusal: Refusal) -> u32
@@ -202,4 +205,35 @@ pub extern "C" fn pewgull_census(request: &[u8], page: &mut [u8], written: &mut 
             put_census(pewgull::census(plant, readings), page, written)
         }
     }
+}
+
+// The number of a day log's answer: 0 where it has a load.
+fn load_number(answer: LoadAnswer) -> u32
+    ensures { λ r. ⌜ r ≡ loadNumber answer ⌝ }
+{
+    match answer {
+        LoadAnswer::Load(_) => 0,
+        LoadAnswer::Refused(refusal) => refusal_number(refusal),
+    }
+}
+
+// The load of a day log's answer: sum 0 and day 0 where it is refused.
+fn load_of(answer: LoadAnswer) -> TwoWeekLoad
+    ensures { λ r. ⌜ r ≡ loadOf answer ⌝ }
+{
+    match answer {
+        LoadAnswer::Load(load) => load,
+        LoadAnswer::Refused(_) => TwoWeekLoad { sum: 0, day: 0 },
+    }
+}
+
+// The highest two-week load of a day log: its sum and its day on the page, in eight bytes each.
+#[no_mangle]
+pub extern "C" fn pewgull_load(log: &[u8], page: &mut [u8], written: &mut u64) -> u32
+    ensures { λ r. ⌜ outcome r (now (page .exit)) (now (written .exit)) ≡ loaded (now (log .entry)) (now (page .entry)) ⌝ }
+{
+    let answer = pewgull::load(log);
+    let number = load_number(answer);
+    let load = load_of(answer);
+    put_figures(number, &[load.sum, load.day], page, written)
 }

@@ -28,6 +28,8 @@ pub fn refusal_number(refusal: Refusal) -> u64
         Refusal::Surface => 9,
         Refusal::Depth => 10,
         Refusal::ShortPage => 11,
+        Refusal::DayLog => 12,
+        Refusal::DayValue => 13,
     }
 }
 

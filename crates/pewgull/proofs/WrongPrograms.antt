@@ -22,3 +22,6 @@ pub use Rattle.accepting.proofs.Refuted.{float-product, tie-upwards, rounded-be
 -- a census with a rule counted where an earlier one is broken, with the tank's rules before the fraction's, without the last
 -- fraction, of vertical flow with 46 return ratios, or of refused data
 pub use Rattle.census.proofs.Refuted.{earlier-rule-ignored, tank-before-fraction, last-fraction-left-out, vertical-with-46-ratios, refused-data-counted}
+-- a two-week load with the last of equal windows, a window of 13 days, the arrays taken as pairs, the last day left out, day 0,
+-- 13 before 12, or a length that wraps
+pub use Rattle.loads.proofs.Refuted.{last-of-equal, window-of-13, arrays-as-pairs, last-day-left-out, day-0, value-before-length, wrapping-length}

@@ -4,6 +4,7 @@ use rules::Answer;
 use rules::Candidate;
 use rules::Census;
 use rules::Explanation;
+use rules::LoadAnswer;
 use rules::Plant;
 use rules::Readings;
 use rules::Written;
@@ -13,6 +14,8 @@ ghost use Rattle.rules.specs.Choosing.{Chosen};
 ghost use Rattle.rules.specs.Explaining.{explain};
 ghost use Rattle.rules.specs.Answers.{answerNumber, answerSheet, explanationNumber, explanationFigures, writtenNumber, writtenCount};
 ghost use Rattle.rules.specs.Census.{census, CensusOutcome};
+ghost use Rattle.rules.specs.DayLog.{twoWeekLoad, loadNumber, loadOf};
+ghost use Rattle.rules.specs.DayLogOutcome.{LoadOutcome};
 ghost use Rattle.rules.specs.Outcomes.{Examined, ChosenOutcome, ExplainedOutcome, WritingOutcome};
 ghost use Rattle.rules.specs.TwoColumns.{TwoColumns};
 ghost use Rattle.listing.specs.Pages.{Writes};
@@ -49,6 +52,14 @@ pub fn census(plant: Plant, readings: Readings) -> Census
     ensures numbered { λ r. ⌜ CensusOutcome plant readings (r .number) (r .counts) ⌝ }
 {
     census::census(plant, readings)
+}
+
+// The highest load over 14 consecutive days of a day log, given by its bytes.
+pub fn load(log: &[u8]) -> LoadAnswer
+    ensures { λ r. ⌜ r ≡ twoWeekLoad (now (log .entry)) ⌝ }
+    ensures numbered { λ r. ⌜ LoadOutcome (now (log .entry)) (loadNumber r) (loadOf r) ⌝ }
+{
+    loads::two_week_load(log)
 }
 
 // The listing of an answer on a lent page: written whole, or refused with 11 and the page as it was.

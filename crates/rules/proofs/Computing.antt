@@ -1,6 +1,7 @@
 -- Every step of the definitions opened at once, for what is shown by computation on concrete data: a declaration that
 -- unfolds `steps` unfolds all that is named here. Assumes nothing.
-use lib.Ieee.{round}
+use lib.Ieee.{round, ofBits}
+use Rattle.words.specs.Bytes
 use Rattle.rules.specs.PlantData.{plantFigures, plantInRange}
 use Rattle.rules.specs.LabReadings
 use Rattle.rules.specs.Accepting
@@ -15,11 +16,15 @@ use Rattle.rules.specs.Answers
 use Rattle.rules.specs.Listing
 use Rattle.rules.specs.Sums
 use Rattle.rules.specs.Census
+use Rattle.rules.specs.DayLog
 use Rattle.rules.specs.Cases
 
 unfoldable pub steps : Unit {0}
 unfolding
     round
+    ofBits
+    Bytes.word
+    Bytes.lowBytes
     plantFigures
     plantInRange
     LabReadings.noNumber
@@ -125,6 +130,19 @@ unfolding
     Census.counted
     Census.censusAccepted
     Census.census
+    DayLog.dayOf
+    DayLog.logWhole
+    DayLog.dayKept
+    DayLog.daysKept
+    DayLog.dayLoad
+    DayLog.windowLoad
+    DayLog.higher
+    DayLog.highestOf
+    DayLog.logRules
+    DayLog.loadBy
+    DayLog.twoWeekLoad
+    DayLog.loadNumber
+    DayLog.loadOf
     Cases.variant
     Cases.hopperPlant
     Cases.caseA

@@ -11,6 +11,8 @@ pub mod RuleOrder
 pub mod Examined
 pub mod CensusLaws
 pub mod CensusOutcomes
+pub mod HighestLoad
+pub mod DayLogLaws
 pub mod NitrateColumns
 pub mod OutcomeLaws
 pub mod ChosenOnce

@@ -56,6 +56,8 @@ small n =
       | Refusal.Surface ↦ tt
       | Refusal.Depth ↦ tt
       | Refusal.ShortPage ↦ tt
+      | Refusal.DayLog ↦ tt
+      | Refusal.DayValue ↦ tt
     ]
 
 pub refusal-number-between : (n : Refusal) → Between 1 31 (refusalNumber n)

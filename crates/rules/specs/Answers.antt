@@ -23,6 +23,8 @@ refusalNumber Refusal.Solids = 8
 refusalNumber Refusal.Surface = 9
 refusalNumber Refusal.Depth = 10
 refusalNumber Refusal.ShortPage = 11
+refusalNumber Refusal.DayLog = 12
+refusalNumber Refusal.DayValue = 13
 
 -- a sheet of zeros
 unfoldable pub emptySheet : Sheet

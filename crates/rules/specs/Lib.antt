@@ -1,7 +1,7 @@
 -- Document 01 as definitions over the whole numbers, in its order: the roundings; plant data and site; lab readings, with
 -- the rules 1 to 4; sludge age and nitrate; sludge and tanks; aeration and recirculation; examining, with the rules 6 to
 -- 10, and numbered answers; choosing; the listing; the worked cases. Beside them: the ranges as facts, the two nitrate
--- columns, what explains a candidate, and the census of the grid.
+-- columns, what explains a candidate, the census of the grid, and the day log with its highest two-week load.
 pub mod Rounding
 pub mod Limits
 pub mod Sums
@@ -21,5 +21,7 @@ pub mod Explaining
 pub mod Outcomes
 pub mod TwoColumns
 pub mod Census
+pub mod DayLog
+pub mod DayLogOutcome
 pub mod Listing
 pub mod Cases

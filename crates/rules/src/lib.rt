@@ -196,7 +196,7 @@ pub struct Sheet {
     pub transfer: u64,
 }
 
-// The refusals, in the order of document 01's table of numbered answers.
+// The refusals, in the order of their numbers.
 pub enum Refusal {
     PlantData,
     NoNumber,
@@ -209,6 +209,8 @@ pub enum Refusal {
     Surface,
     Depth,
     ShortPage,
+    DayLog,
+    DayValue,
 }
 
 // What a list of rules says: all of them are kept, or the refusal of the first that is broken.
@@ -268,4 +270,26 @@ pub struct Census {
     // at k how many candidates of the grid are answered with k: at 0 the permitted ones, at a rule's number those of which
     // it is the first broken
     pub counts: [u64; ANSWER_NUMBERS],
+}
+
+// A day of the day log.
+pub struct Day {
+    // m3/d
+    pub flow: f32,
+    // mg/l
+    pub bod: f32,
+}
+
+// A load over 14 consecutive days.
+pub struct TwoWeekLoad {
+    // the sum of the days' loads: products of thousandths of m3/d and of mg/l
+    pub sum: u64,
+    // its first day, counted from 1
+    pub day: u64,
+}
+
+// What the day log is answered with: its highest two-week load, or a refusal.
+pub enum LoadAnswer {
+    Load(TwoWeekLoad),
+    Refused(Refusal),
 }

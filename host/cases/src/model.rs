@@ -9,6 +9,8 @@ pub const SHORT_PAGE: u32 = reference::refusal::SHORT_PAGE as u32;
 pub const EXPLAIN_PAGE: usize = 56;
 /// Bytes that a census writes.
 pub const CENSUS_PAGE: usize = 256;
+/// Bytes that a two-week load writes.
+pub const LOAD_PAGE: usize = 16;
 
 /// The call's number and the bytes it writes at the start of the page.
 #[derive(Clone, Debug, PartialEq, Eq)]
@@ -98,5 +100,16 @@ pub fn census(request: &[u8], page_length: usize) -> Outcome {
     match reference::census(&data.plant, &data.readings) {
         Err(number) => put(u32::from(number), &[0; CENSUS_PAGE / 8]),
         Ok(counts) => put(0, &counts),
+    }
+}
+
+/// Sum and day of a day log, or a refusal and zeros.
+pub fn load(log: &[u8], page_length: usize) -> Outcome {
+    if page_length < LOAD_PAGE {
+        return nothing(SHORT_PAGE);
+    }
+    match reference::two_week_load(log) {
+        Err(number) => put(u32::from(number), &[0; LOAD_PAGE / 8]),
+        Ok(load) => put(0, &[load.sum, load.day]),
     }
 }

@@ -1,4 +1,4 @@
-//! One request to the library and to the reference.
+//! One request or day log to the library and to the reference.
 
 use cases::model::{self, Outcome};
 use library::number::{NO_DESIGN, SHEET};
@@ -10,6 +10,7 @@ pub enum Operation {
     Choose,
     Explain,
     Census,
+    Load,
 }
 
 /// Bytes before and after the page that must stay as they were.
@@ -34,6 +35,7 @@ fn call(operation: Operation, request: &[u8], page_length: usize) -> Given {
         Operation::Choose => library::choose(request, page),
         Operation::Explain => library::explain(request, page),
         Operation::Census => library::census(request, page),
+        Operation::Load => library::load(request, page),
     };
     Given {
         number,
@@ -48,6 +50,7 @@ pub fn expected(operation: Operation, request: &[u8], page_length: usize) -> Out
         Operation::Choose => model::choose(request, page_length),
         Operation::Explain => model::explain(request, page_length),
         Operation::Census => model::census(request, page_length),
+        Operation::Load => model::load(request, page_length),
     }
 }
 

@@ -2,5 +2,6 @@
 
 pub mod compare;
 pub mod counts;
+pub mod logs;
 pub mod requests;
 pub mod stack;

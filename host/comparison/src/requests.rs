@@ -1,6 +1,7 @@
 //! Random requests: plain, on the lines, and damaged.
 
 use crate::compare::Operation;
+use crate::logs;
 use cases::lines::{on_cover, random_on_line};
 use cases::odd;
 use cases::plants;
@@ -45,7 +46,7 @@ pub fn with_design(random: &mut Random) -> Request {
 }
 
 /// An odd f32, or any bits at all.
-fn odd_bits(random: &mut Random) -> u32 {
+pub fn odd_bits(random: &mut Random) -> u32 {
     match random.within(0, 5) {
         0 => random.pick(&odd::NO_NUMBERS),
         1 => random.pick(&odd::ZEROS),
@@ -121,6 +122,7 @@ pub fn any(random: &mut Random, tanks: &OnLines, operation: Operation) -> Vec<u8
     let bytes = match operation {
         Operation::Choose | Operation::Census => request.choose_bytes(),
         Operation::Examine | Operation::Explain => request.examine_bytes(),
+        Operation::Load => logs::any(random),
     };
     if random.one_in(32) {
         damaged_length(random, bytes)

@@ -5,6 +5,7 @@ use cases::random::Random;
 use cases::tanks::OnLines;
 use comparison::compare::{agree, compare, compare_census, expected, Operation};
 use comparison::counts::{in_parts, settle, Found};
+use comparison::logs;
 use comparison::requests;
 use comparison::stack::stack_of;
 use library::number::*;
@@ -16,6 +17,7 @@ const CHOICES: usize = 4_000;
 const CENSUSES: usize = 320;
 /// Damaged ones among them, on pages of several lengths.
 const ANY_CENSUSES: usize = 960;
+const LOADS: usize = 1_600;
 
 /// Random requests of one operation, on pages of several lengths.
 fn random_requests(operation: Operation, seed: u64, count: usize) -> Found {
@@ -32,10 +34,11 @@ fn random_requests(operation: Operation, seed: u64, count: usize) -> Found {
     })
 }
 
-/// So many answers of each number but these.
+/// So many answers of each number but these and a day log's.
 fn all_but(not_given: &[u32], least: usize) -> Vec<(u32, usize)> {
     let numbers = ALL.iter().map(|known| known.number);
     numbers
+        .filter(|number| ![DAY_LOG, DAY_VALUE].contains(number))
         .filter(|number| !not_given.contains(number))
         .map(|number| (number, least))
         .collect()
@@ -111,8 +114,40 @@ fn any_censuses() {
     settle("census", &found, &all_but(&not_given, 5));
 }
 
+#[test]
+fn any_loads() {
+    let found = in_parts(7_000, LOADS, |seed, share| {
+        let mut random = Random::new(seed);
+        let mut found = Found::default();
+        for _ in 0..share {
+            let log = logs::any(&mut random);
+            let length = requests::page_length(&mut random);
+            found.add(compare(Operation::Load, &log, length));
+        }
+        found
+    });
+    let wanted = [
+        (SHEET, 700),
+        (SHORT_PAGE, 50),
+        (DAY_LOG, 100),
+        (DAY_VALUE, 100),
+    ];
+    settle("load", &found, &wanted);
+}
+
+/// Each rule of a day log just met and just missed.
+#[test]
+fn loads_made_to_measure() {
+    let mut found = Found::default();
+    for log in logs::made_to_measure() {
+        found.add(compare(Operation::Load, &log, 16));
+    }
+    let wanted = [(SHEET, 250), (DAY_LOG, 250), (DAY_VALUE, 100)];
+    settle("load, made to measure", &found, &wanted);
+}
+
 /// Every page length up to a few bytes more than the listing, for an
-/// examination, a choice, a refusal, an explanation and a census.
+/// examination, a choice, a refusal, an explanation, a census and a load.
 #[test]
 fn page_lengths() {
     let plant = cases::plants::case_a();
@@ -127,6 +162,8 @@ fn page_lengths() {
         (Operation::Explain, off_grid.examine_bytes()),
         (Operation::Census, plant.choose_bytes()),
         (Operation::Census, no_load.choose_bytes()),
+        (Operation::Load, logs::log(&[(0, 0); 14])),
+        (Operation::Load, Vec::new()),
     ] {
         let exact = expected(operation, &bytes, 512).written.len();
         for length in 0..=exact + 3 {
@@ -140,6 +177,7 @@ fn page_lengths() {
             (SHEET, 16),
             (PLANT_DATA, 4),
             (OFF_GRID, 8),
+            (DAY_LOG, 4),
             (SHORT_PAGE, 900),
         ],
     );
@@ -182,6 +220,7 @@ fn differences_are_reported() {
 fn stack_as_stated() {
     let plant = cases::plants::case_a();
     let vertical = plant.with(cases::request::TANK_FLOW, 1);
+    let log = logs::log(&[(0, 0); 3_660]);
     for request in [plant, vertical] {
         let (examine, choose) = (request.examine_bytes(), request.choose_bytes());
         for (call, bytes, stated) in [
@@ -189,6 +228,7 @@ fn stack_as_stated() {
             (library::EXAMINE, &examine, 2_000),
             (library::EXPLAIN, &examine, 2_000),
             (library::CENSUS, &choose, 2_000),
+            (library::LOAD, &log, 2_000),
         ] {
             let (_, taken) = stack_of(call, bytes, &mut [0; 512]);
             assert!(

@@ -1,5 +1,5 @@
-//! The calls: a request's bytes in, the answer's number and the count of
-//! bytes written on the page out.
+//! The calls: the bytes of a request or of a day log in, the answer's number
+//! and the count of bytes written on the page out.
 
 /// Pointer and length of the request, pointer and length of the page, and
 /// where the count of bytes written goes.
@@ -47,6 +47,10 @@ calls! {
     /// Examines every candidate for a request of `CHOOSE_LENGTH` bytes and
     /// writes the `CENSUS_LENGTH` bytes of the counts of their answers.
     census, CENSUS: pewgull_census;
+
+    /// Finds the highest two-week load of the bytes of a day log and writes
+    /// the `LOAD_PAGE` bytes of its sum and day.
+    load, LOAD: pewgull_load;
 }
 
 fn call(function: Call, request: &[u8], page: &mut [u8]) -> (u32, u64) {

@@ -1,15 +1,19 @@
-//! The proved calls over their C interface, and the bytes of a request.
+//! The proved calls over their C interface, and the bytes of a request and of
+//! a day log.
 
 mod calls;
 mod census;
 mod figures;
+mod load;
 pub mod number;
 mod request;
 pub mod sheet;
 
-pub use calls::{census, choose, examine, explain, Call, CENSUS, CHOOSE, EXAMINE, EXPLAIN};
+pub use calls::{census, choose, examine, explain, load};
+pub use calls::{Call, CENSUS, CHOOSE, EXAMINE, EXPLAIN, LOAD};
 pub use census::{Census, CENSUS_LENGTH, COUNTED};
 pub use figures::{Figures, FIGURES_LENGTH};
+pub use load::{day_log, Day, Load, LEAST_DAYS, LOAD_PAGE, MOST_BOD, MOST_DAYS, MOST_FLOW};
 pub use request::{
     Candidate, Precipitant, PrimarySettling, Process, Reading, Removal, Request, TankFlow,
     CHOOSE_LENGTH, EXAMINE_LENGTH, EXPLAIN_LENGTH, VERSION,

@@ -32,13 +32,15 @@ numbers! {
     SURFACE 9 "surface";
     DEPTH 10 "depth";
     SHORT_PAGE 11 "short page";
+    DAY_LOG 12 "day log";
+    DAY_VALUE 13 "day value";
     BAD_LENGTH 101 "bad length";
     BAD_VERSION 102 "bad version";
     BAD_KIND 103 "bad kind";
 }
 
-/// Whether a number says that the data or the candidate are refused, and
-/// that the refusal is listed.
+/// Whether a number says that the data, the candidate or the day log are
+/// refused.
 pub fn is_refusal(number: u32) -> bool {
     number != SHEET && number != SHORT_PAGE && number < BAD_LENGTH
 }

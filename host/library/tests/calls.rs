@@ -5,7 +5,8 @@ mod common;
 use common::{case_a, CASE_A_CANDIDATE, CASE_A_LISTING};
 use library::number::*;
 use library::sheet::{candidates, GRID, LINES};
-use library::{census, choose, examine, explain, Candidate, Census, Figures, Request, TankFlow};
+use library::{census, choose, day_log, examine, explain, load, LOAD_PAGE};
+use library::{Candidate, Census, Day, Figures, Load, Request, TankFlow};
 use library::{CENSUS_LENGTH, CHOOSE_LENGTH, COUNTED, EXAMINE_LENGTH, FIGURES_LENGTH, PAGE_LENGTH};
 
 const UNTOUCHED: u8 = 0xaa;
@@ -124,6 +125,67 @@ fn a_census_needs_its_page() {
     assert_eq!(page, [UNTOUCHED; CENSUS_LENGTH - 1]);
 }
 
+/// A log of 20 equal days but for the flow of day 16.
+fn twenty_days(flow: f32) -> Vec<u8> {
+    let day = |flow: f32| Day {
+        flow: flow.to_bits(),
+        bod: 200f32.to_bits(),
+    };
+    let mut days = [day(5_000.0); 20];
+    days[15] = day(flow);
+    day_log(&days)
+}
+
+#[test]
+fn the_bytes_of_a_day_log() {
+    let log = day_log(&[
+        Day {
+            flow: 1,
+            bod: 0x0203,
+        },
+        Day { flow: 4, bod: 5 },
+    ]);
+    let words = [2, 1, 4, 0x0203, 5u32];
+    assert_eq!(log, words.map(u32::to_le_bytes).concat());
+    assert_eq!(day_log(&[]), [0; 4]);
+}
+
+#[test]
+fn the_load_of_a_day_log() {
+    let mut page = [UNTOUCHED; PAGE_LENGTH];
+    let answer = load(&twenty_days(6_000.0), &mut page);
+    assert_eq!(answer, (SHEET, LOAD_PAGE as u64));
+    let (written, rest) = page.split_first_chunk().unwrap();
+    let sum = 14_200_000_000_000;
+    assert_eq!(Load::from_page(written), Load { sum, day: 3 });
+    assert!(rest.iter().all(|&byte| byte == UNTOUCHED));
+}
+
+#[test]
+fn a_refused_day_log_is_zeros() {
+    let log = twenty_days(5_000.0);
+    for (log, number) in [
+        (&log[..log.len() - 1], DAY_LOG),
+        (&[], DAY_LOG),
+        (&twenty_days(f32::NAN), DAY_VALUE),
+        (&twenty_days(200_000.02), DAY_VALUE),
+    ] {
+        let mut page = [UNTOUCHED; LOAD_PAGE];
+        assert_eq!(load(log, &mut page), (number, LOAD_PAGE as u64));
+        assert_eq!(page, [0; LOAD_PAGE]);
+    }
+}
+
+#[test]
+fn a_load_needs_its_page() {
+    let mut page = [UNTOUCHED; LOAD_PAGE - 1];
+    for log in [&twenty_days(5_000.0)[..], &[]] {
+        assert_eq!(load(log, &mut page), (SHORT_PAGE, 0));
+        assert_eq!(load(log, &mut []), (SHORT_PAGE, 0));
+    }
+    assert_eq!(page, [UNTOUCHED; LOAD_PAGE - 1]);
+}
+
 #[test]
 fn a_short_page_is_left_alone() {
     let request = case_a().to_examine(CASE_A_CANDIDATE);
@@ -175,9 +237,9 @@ fn a_refusal_is_listed() {
 fn numbers_rise_and_have_words() {
     assert!(ALL.windows(2).all(|pair| pair[0].number < pair[1].number));
     assert_eq!(word(NO_DESIGN), Some("no design"));
-    assert_eq!(word(12), None);
+    assert_eq!(word(99), None);
     let refusals = ALL.iter().filter(|known| is_refusal(known.number));
-    assert_eq!(refusals.count(), 10);
+    assert_eq!(refusals.count(), 12);
 }
 
 #[test]

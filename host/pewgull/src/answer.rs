@@ -5,7 +5,7 @@ use crate::explanation;
 use crate::json::{self, Member, Value};
 use library::number::{self, SHEET};
 use library::sheet::candidates;
-use library::{Candidate, Request, PAGE_LENGTH};
+use library::{Candidate, Load, Request, LOAD_PAGE, PAGE_LENGTH};
 
 /// The library's number, what an answer that is no refusal is called, and
 /// its text and its members.
@@ -61,6 +61,23 @@ pub fn census(request: &Request) -> Answer {
         kind: "census",
         text: text.into_bytes(),
         members,
+    }
+}
+
+/// The answer of `load`: the highest sum of 14 daily loads, and its first day.
+pub fn load(log: &[u8]) -> Answer {
+    let mut page = [0; LOAD_PAGE];
+    let (number, _) = library::load(log, &mut page);
+    if number != SHEET {
+        return refused(number);
+    }
+    let Load { sum, day } = Load::from_page(&page);
+    let text = format!("sum {sum}\nday {day}\n");
+    Answer {
+        number,
+        kind: "load",
+        members: json::members(&text),
+        text: text.into_bytes(),
     }
 }
 

@@ -13,6 +13,8 @@ pub enum Action {
     Plants(fn(&Request) -> Answer),
     /// `FILE F R H`: one plant and one candidate
     Candidate(fn(&Request, Candidate) -> Answer),
+    /// `LOG...`: each day log by itself
+    Logs(fn(&[u8]) -> Answer),
 }
 
 pub struct Form {
@@ -43,6 +45,11 @@ pub const COMMANDS: &[Form] = &[
         about: "prints how many candidates are permitted, and how many each rule stops",
         action: Action::Plants(answer::census),
     },
+    Form {
+        name: "load",
+        about: "prints the highest load over 14 consecutive days of a day log",
+        action: Action::Logs(answer::load),
+    },
 ];
 
 impl Form {
@@ -51,16 +58,17 @@ impl Form {
         match self.action {
             Action::Plants(_) => "FILE...",
             Action::Candidate(_) => "FILE F R H",
+            Action::Logs(_) => "[--csv] LOG...",
         }
     }
 
     /// Its files, and its candidate where it takes one.
     fn read(&self, words: &[OsString]) -> Result<(Vec<OsString>, Option<Candidate>), String> {
         match self.action {
-            Action::Plants(_) if words.is_empty() => {
+            Action::Plants(_) | Action::Logs(_) if words.is_empty() => {
                 Err(usage(&format!("expected {} {}", self.name, self.words())))
             }
-            Action::Plants(_) => Ok((words.to_vec(), None)),
+            Action::Plants(_) | Action::Logs(_) => Ok((words.to_vec(), None)),
             Action::Candidate(_) => {
                 let (file, candidate) = one_file(self.name, words)?;
                 Ok((vec![file], Some(candidate)))
@@ -73,6 +81,8 @@ impl Form {
 pub struct Command {
     pub action: Action,
     pub json: bool,
+    /// Day logs are given as text
+    pub csv: bool,
     pub files: Vec<OsString>,
     pub candidate: Option<Candidate>,
 }
@@ -92,6 +102,7 @@ struct Words {
     help: bool,
     version: bool,
     json: bool,
+    csv: bool,
     plain: Vec<OsString>,
 }
 
@@ -106,9 +117,10 @@ fn sort(words: &[OsString]) -> Result<Words, String> {
             "--help" | "-h" => sorted.help = true,
             "--version" => sorted.version = true,
             "--json" => sorted.json = true,
+            "--csv" => sorted.csv = true,
             option if is_option(option) => {
                 return Err(usage(&format!(
-                    "'{}' is no option; expected --json, --help or --version",
+                    "'{}' is no option; expected --json, --csv, --help or --version",
                     values::shown(option)
                 )))
             }
@@ -157,10 +169,14 @@ pub fn parse(words: &[OsString]) -> Result<Order, String> {
             names()
         )));
     };
+    if sorted.csv && !matches!(form.action, Action::Logs(_)) {
+        return Err(usage("--csv is for the command load alone"));
+    }
     let (files, candidate) = form.read(rest)?;
     Ok(Order::Run(Command {
         action: form.action,
         json: sorted.json,
+        csv: sorted.csv,
         files,
         candidate,
     }))

@@ -141,7 +141,7 @@ impl Outcome<'_> {
 }
 
 /// A f32 in few digits.
-fn short(bits: u32) -> String {
+pub fn short(bits: u32) -> String {
     let value = f32::from_bits(bits);
     let plain = value.to_string();
     match plain.len() > 16 {

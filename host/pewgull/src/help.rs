@@ -6,6 +6,7 @@ use crate::keys::{Field, HEADS, KEYS};
 use library::number;
 use library::sheet::{GRID, LINES};
 use library::{COUNTED, KIT, VERSION};
+use library::{LEAST_DAYS, MOST_BOD, MOST_DAYS, MOST_FLOW};
 
 fn usage() -> String {
     let mut text = String::new();
@@ -40,7 +41,7 @@ fn grid() -> String {
 }
 
 const STATUS: &str = "\
-Exit status: 0 a sheet, figures or counts; 1 a refusal; 2 a file or usage error
+Exit status: 0 an answer; 1 a refusal; 2 a file or usage error
 ";
 
 /// What `--help` prints: a screen.
@@ -49,7 +50,9 @@ pub fn short() -> String {
         "{}\n{}help     prints all lines, keys, units, ranges and refusals\n\
          --json   prints one JSON object for each file, on a line of its own\n\
          FILE     a plant file: text, one 'key value' per line, # starts a comment;\n         \
-         - is standard input; examples/case-a.plant has every key\n{}\n{STATUS}\
+         - is standard input; examples/case-a.plant has every key\n\
+         LOG      a day log; with --csv a text file, flow and BOD in a line for each day\n\
+         {}\n{STATUS}\
          Example: pewgull examine examples/case-a.plant 300 75 20\n",
         usage(),
         commands(),
@@ -69,6 +72,7 @@ pub fn manual() -> String {
          A candidate that is not permitted is counted at the first rule that it breaks.\n",
         COUNTED.map(census::label).join(", ")
     );
+    text += &day_log();
     text += "\nThe keys of a plant file\n";
     for key in &KEYS {
         let (name, meaning) = (key.name, key.meaning);
@@ -94,6 +98,25 @@ pub fn manual() -> String {
     }
     text
 }
+
+/// The lines of a load, what a log holds, and the load of a plant.
+fn day_log() -> String {
+    format!(
+        "\nThe lines of a load\n  \
+         sum            highest sum of 14 consecutive daily loads, millionths of g/d\n  \
+         day            the first day, counted from 1, on which such days start\n\
+         A day log is a 32-bit count of days, {LEAST_DAYS}..{MOST_DAYS}, then the f32 flows, at most\n\
+         {MOST_FLOW} m3/d, then the f32 BOD values, at most {MOST_BOD} mg/l, all little-endian.\n\
+         With --csv it is made from a text file: a line for each day with flow and BOD,\n\
+         separated by comma, semicolon or tab; a heading line may stand before them.\n\
+         {PLANT_LOAD}\n"
+    )
+}
+
+/// How a load serves for a plant file.
+const PLANT_LOAD: &str = "\
+For the key 'load' of a plant file take the mean of the 14 daily loads: the sum\n\
+divided by 14 and by 1,000,000,000, rounded up to a whole kg/d.";
 
 /// The words in lines of 80 columns, the later lines indented.
 fn wrapped(words: &[&str], indent: usize) -> String {

@@ -2,12 +2,15 @@
 
 use crate::answer::Answer;
 use crate::arguments::{Action, Command};
+use crate::day_file::{self, Log};
 use crate::json::{self, Member, Value};
+use crate::load;
 use crate::plant_file;
 use crate::refusal;
+use crate::text_file::Fault;
 use crate::values::escaped;
 use library::number::{self, is_refusal, SHEET};
-use library::{Candidate, Request};
+use library::Request;
 use std::ffi::OsStr;
 use std::fs::File;
 use std::io::{self, ErrorKind, Read};
@@ -17,7 +20,8 @@ pub const REFUSED: u8 = 1;
 /// Exit status of a file or usage error.
 pub const FILE_ERROR: u8 = 2;
 
-/// A plant file is some hundred bytes; what is longer is something else.
+/// A plant file is some hundred bytes, a day log some thousand; what is longer
+/// is something else.
 const LONGEST_FILE: u64 = 1 << 20;
 
 /// What a command on a file prints, says on standard error and ends with.
@@ -38,10 +42,7 @@ struct Found {
 /// Runs the command on one of its files.
 pub fn answer(command: &Command, file: &OsStr) -> Outcome {
     let name = file.to_string_lossy();
-    let result = match read(file) {
-        Ok(request) => answered(command, &request, &escaped(&name)),
-        Err(messages) => error(messages),
-    };
+    let result = found(command, file, &escaped(&name)).unwrap_or_else(error);
     let printed = match command.json {
         true => {
             let mut members = vec![json::text("file", &name)];
@@ -74,35 +75,58 @@ fn error(messages: Vec<String>) -> Found {
     }
 }
 
+/// What comes of a file, or why it cannot be answered for.
+fn found(command: &Command, file: &OsStr, name: &str) -> Result<Found, Vec<String>> {
+    if let Action::Logs(call) = command.action {
+        let log = read_log(file, name, command.csv)?;
+        let answer = call(&log.bytes);
+        return settled(answer, name, |number| load::words(number, &log));
+    }
+    let request = read(file, name)?;
+    let answer = answered(command, &request)?;
+    settled(answer, name, |number| {
+        refusal::words(number, &request, command.candidate)
+    })
+}
+
 /// The library's answer to a request.
-fn answered(command: &Command, request: &Request, name: &str) -> Found {
-    let answer = match (command.action, command.candidate) {
-        (Action::Plants(call), _) => call(request),
-        (Action::Candidate(call), Some(candidate)) => call(request, candidate),
-        (Action::Candidate(_), None) => return error(vec!["the candidate is missing".to_string()]),
-    };
+fn answered(command: &Command, request: &Request) -> Result<Answer, Vec<String>> {
+    match (command.action, command.candidate) {
+        (Action::Plants(call), _) => Ok(call(request)),
+        (Action::Candidate(call), Some(candidate)) => Ok(call(request, candidate)),
+        (Action::Candidate(_) | Action::Logs(_), _) => {
+            Err(vec!["the candidate is missing".to_string()])
+        }
+    }
+}
+
+/// An answer with the words of its refusal.
+fn settled(
+    answer: Answer,
+    name: &str,
+    words: impl FnOnce(u32) -> String,
+) -> Result<Found, Vec<String>> {
     match answer.number {
         SHEET => {
             let mut members = vec![json::text("status", answer.kind)];
             members.extend(answer.members);
-            Found {
+            Ok(Found {
                 status: 0,
                 text: answer.text,
                 members,
                 messages: Vec::new(),
-            }
+            })
         }
-        number if is_refusal(number) => refused(answer, request, command.candidate, name),
-        number => error(vec![format!(
+        number if is_refusal(number) => Ok(refused(answer, format!("{name}: {}", words(number)))),
+        number => Err(vec![format!(
             "{name}: the library answered {number}, expected a sheet or a refusal; \
              its archive and this tool are of different versions"
         )]),
     }
 }
 
-fn refused(answer: Answer, request: &Request, candidate: Option<Candidate>, name: &str) -> Found {
+fn refused(answer: Answer, message: String) -> Found {
     let number = answer.number;
-    let message = format!("{name}: {}", refusal::words(number, request, candidate));
     Found {
         status: REFUSED,
         text: answer.text,
@@ -117,16 +141,34 @@ fn refused(answer: Answer, request: &Request, candidate: Option<Candidate>, name
 }
 
 /// Reads and parses a plant file.
-fn read(file: &OsStr) -> Result<Request, Vec<String>> {
-    let name = escaped(&file.to_string_lossy());
-    let bytes = contents(file)
-        .map_err(|error| vec![format!("{name}: {}; expected a plant file", reason(&error))])?;
-    plant_file::parse(&bytes).map_err(|faults| {
-        faults
-            .iter()
-            .map(|fault| format!("{name}:{}: {}", fault.line, fault.what))
-            .collect()
+fn read(file: &OsStr, name: &str) -> Result<Request, Vec<String>> {
+    let bytes = expected(file, name, "a plant file")?;
+    plant_file::parse(&bytes).map_err(|faults| told(&faults, name))
+}
+
+/// Reads a day log, or makes it from a text file.
+fn read_log(file: &OsStr, name: &str, csv: bool) -> Result<Log, Vec<String>> {
+    if csv {
+        let bytes = expected(file, name, "a text file of days")?;
+        return day_file::parse(&bytes).map_err(|faults| told(&faults, name));
+    }
+    Ok(Log {
+        bytes: expected(file, name, "a day log")?,
+        first_line: None,
     })
+}
+
+/// The bytes of a file, or why it cannot be read and what was expected.
+fn expected(file: &OsStr, name: &str, what: &str) -> Result<Vec<u8>, Vec<String>> {
+    contents(file).map_err(|error| vec![format!("{name}: {}; expected {what}", reason(&error))])
+}
+
+/// The faults with the file's name.
+fn told(faults: &[Fault], name: &str) -> Vec<String> {
+    faults
+        .iter()
+        .map(|fault| format!("{name}:{}: {}", fault.line, fault.what))
+        .collect()
 }
 
 /// Why a file cannot be read.

@@ -278,12 +278,14 @@ fn several_files_have_headings_and_the_largest_status() {
 }
 
 #[rustfmt::skip]
-const USAGE_ERRORS: [(&str, &str); 11] = [
-    ("", "no command; expected choose, examine, explain, census or help"),
-    ("chose", "'chose' is no command; expected choose, examine, explain, census or help"),
+const USAGE_ERRORS: [(&str, &str); 13] = [
+    ("", "no command; expected choose, examine, explain, census, load or help"),
+    ("chose", "'chose' is no command; expected choose, examine, explain, census, load or help"),
+    ("load --csv", "expected load [--csv] LOG..."),
+    ("choose --csv F", "--csv is for the command load alone"),
     ("choose", "expected choose FILE..."),
     ("census --json", "expected census FILE..."),
-    ("choose --jsno F", "'--jsno' is no option; expected --json, --help or --version"),
+    ("choose --jsno F", "'--jsno' is no option; expected --json, --csv, --help or --version"),
     ("examine F", "expected examine FILE F R H, one file and three numbers (words given: 1)"),
     ("explain F 300 75", "expected explain FILE F R H"),
     ("examine F 300 75 20 1", "expected examine FILE F R H"),

@@ -5,7 +5,7 @@ mod common;
 use common::{pewgull, repository};
 use library::number;
 use library::sheet::{candidates, GRID, LINES};
-use library::{TankFlow, COUNTED};
+use library::{TankFlow, COUNTED, LEAST_DAYS, MOST_BOD, MOST_DAYS, MOST_FLOW};
 use pewgull::arguments::COMMANDS;
 use pewgull::census::label;
 use pewgull::keys::{Field, HEADS, KEYS};
@@ -172,6 +172,43 @@ fn census() {
     );
 }
 
+/// The ranges of a day log, how its load serves for a plant, and the example.
+#[test]
+fn load() {
+    let readme = document("README.md");
+    let header = plain(&document("include/pewgull.h"));
+    let help = plain(&pewgull(&["help"]).out);
+    let (flow, bod) = (MOST_FLOW, MOST_BOD);
+    let days = format!("{LEAST_DAYS}..{MOST_DAYS}");
+    for document in [&header, &help] {
+        for part in [
+            &days,
+            &format!("at most {flow} m3/d"),
+            &format!("at most {bod} mg/l"),
+        ] {
+            has(document, "the header or help", part);
+        }
+    }
+    has(&readme, "README.md", &format!("into {days}"));
+    has(
+        &readme,
+        "README.md",
+        &format!("flow 0..{flow} m³/d, BOD 0..{bod} mg/l"),
+    );
+    for document in [&plain(&readme), &header, &help] {
+        let use_of_it = "the sum divided by 14 and by 1,000,000,000, rounded up to a whole kg/d";
+        has(document, "a document", use_of_it);
+    }
+    let days = "examples/two-years.csv";
+    let ran = pewgull(&["load", "--csv", repository().join(days).to_str().unwrap()]);
+    let shown = format!("    $ pewgull load --csv {days}\n{}", ran.out);
+    has(
+        &readme,
+        "README.md",
+        shown.trim_end().replace('\n', "\n    ").as_str(),
+    );
+}
+
 #[test]
 fn lengths() {
     let header = plain(&document("include/pewgull.h"));
@@ -183,6 +220,7 @@ fn lengths() {
         ("PAGE_LENGTH", library::PAGE_LENGTH),
         ("FIGURES_LENGTH", library::FIGURES_LENGTH),
         ("CENSUS_LENGTH", library::CENSUS_LENGTH),
+        ("LOAD_PAGE", library::LOAD_PAGE),
     ] {
         has(
             &header,

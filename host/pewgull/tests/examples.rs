@@ -1,5 +1,5 @@
-//! The files of examples/: each plant gets the answer that it shows, and the
-//! C program prints Case A.
+//! The files of examples/: each plant gets the answer that it shows, the two
+//! years have their wet fortnight, and the C program prints Case A.
 
 mod common;
 
@@ -67,6 +67,33 @@ fn every_plant_is_in_the_table_and_says_what_it_shows() {
     }
     names.sort();
     assert_eq!(names, ANSWERS.map(|(name, _, _)| name));
+}
+
+/// Summed anew from the file's tenths; Case A's load is its mean, rounded up.
+#[test]
+fn two_years() {
+    let text = fs::read_to_string(repository().join("examples/two-years.csv")).unwrap();
+    let tenths = |value: &str| value.replace('.', "").parse::<u64>().unwrap();
+    let loads: Vec<u64> = text
+        .lines()
+        .skip(1)
+        .map(|line| line.split_once(',').unwrap())
+        .map(|(flow, bod)| tenths(flow) * 100 * tenths(bod) * 100)
+        .collect();
+    assert_eq!(loads.len(), 730);
+    let sums = loads.windows(14).map(|days| days.iter().sum::<u64>());
+    let sum = sums.clone().max().unwrap();
+    let day = sums.into_iter().position(|other| other == sum).unwrap() + 1;
+    let ran = pewgull(&["load", "--csv", &example("two-years.csv")]);
+    assert_eq!((ran.status, ran.err.as_str()), (0, ""));
+    assert_eq!(ran.out, format!("sum {sum}\nday {day}\n"));
+    let plant = fs::read_to_string(repository().join("examples/case-a.plant")).unwrap();
+    let load = sum.div_ceil(14_000_000_000).to_string();
+    let value = |line: &str| {
+        let mut words = line.split_whitespace();
+        (words.next() == Some("load")).then(|| words.next().map(str::to_string))
+    };
+    assert_eq!(plant.lines().find_map(value), Some(Some(load)));
 }
 
 #[test]

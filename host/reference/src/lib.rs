@@ -3,11 +3,13 @@
 //!
 //! Concentrations are in mg/m3, ages in thousandths of a day, all figures
 //! whole numbers. The largest product on accepted data, Q x C x specific
-//! oxygen uptake, is below 10^15, so u64 holds every step.
+//! oxygen uptake, is below 10^15, and a two-week load below 10^16, so u64 holds
+//! every step.
 
 pub mod aeration;
 pub mod age;
 pub mod choose;
+pub mod day_log;
 pub mod examine;
 pub mod listing;
 pub mod nitrogen;
@@ -21,6 +23,7 @@ pub mod sludge;
 pub mod stages;
 
 pub use choose::{census, choose};
+pub use day_log::{two_week_load, TwoWeekLoad};
 pub use examine::{examine, Candidate};
 pub use listing::{listing, write};
 pub use plant::{Plant, Precipitant, PrimarySettling, Process, Removal, Steps, TankFlow};

@@ -11,3 +11,5 @@ pub const SOLIDS: u8 = 8;
 pub const SURFACE: u8 = 9;
 pub const DEPTH: u8 = 10;
 pub const SHORT_PAGE: u8 = 11;
+pub const DAY_LOG: u8 = 12;
+pub const DAY_VALUE: u8 = 13;

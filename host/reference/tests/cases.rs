@@ -4,6 +4,8 @@
 mod census;
 #[path = "cases/common.rs"]
 mod common;
+#[path = "cases/day_log.rs"]
+mod day_log;
 #[path = "cases/errors.rs"]
 mod errors;
 #[path = "cases/extremes.rs"]

@@ -1,11 +1,12 @@
-//! Choices, censuses and examinations per second of the library and of the
-//! reference, on the same plants, the time of a census beside that of a
+//! Choices, censuses, examinations and two-week loads per second of the library
+//! and of the reference, on the same plants and day logs, the time of a census beside that of a
 //! choice, and the stack that a call takes.
 
 use cases::model;
 use cases::plants;
 use cases::random::Random;
 use cases::request::*;
+use comparison::logs;
 use comparison::stack::stack_of;
 use library::number::{NO_DESIGN, SHEET};
 use library::PAGE_LENGTH as PAGE;
@@ -152,9 +153,24 @@ fn examinations(plants: &[Request]) {
     row("examine", rates(&all, by_library, by_reference));
 }
 
+/// Logs of ten years: plausible days, and any days up to the limits.
+fn ten_years() -> Vec<Vec<u8>> {
+    let mut random = Random::new(6_100);
+    let sorts = [1, 2].map(|sort| logs::days(&mut random, 3_660, sort));
+    sorts.iter().map(|days| logs::log(days)).collect()
+}
+
+fn loads() {
+    let by_library = |log: &[u8]| library::load(log, &mut [0; PAGE]).0;
+    let by_reference = |log: &[u8]| model::load(log, PAGE).number;
+    let rates = rates(&ten_years(), by_library, by_reference);
+    row("load, log of 3,660 days", rates);
+}
+
 /// The most stack that a call takes over all plants.
 fn stacks(plants: &[Request]) {
-    let mut most = [0; 4];
+    let mut most = [0; 5];
+    let log = &ten_years()[0];
     let mut page = [0; PAGE];
     for plant in plants {
         let (examine, choose) = (plant.examine_bytes(), plant.choose_bytes());
@@ -163,6 +179,7 @@ fn stacks(plants: &[Request]) {
             stack_of(library::EXAMINE, &examine, &mut page),
             stack_of(library::EXPLAIN, &examine, &mut page),
             stack_of(library::CENSUS, &choose, &mut page),
+            stack_of(library::LOAD, log, &mut page),
         ];
         assert_eq!(taken[0].0, chosen(plant));
         for (most, (_, bytes)) in most.iter_mut().zip(taken) {
@@ -170,8 +187,8 @@ fn stacks(plants: &[Request]) {
         }
     }
     println!(
-        "stack, bytes: choose {}, examine {}, explain {}, census {}",
-        most[0], most[1], most[2], most[3]
+        "stack, bytes: choose {}, examine {}, explain {}, census {}, load {}",
+        most[0], most[1], most[2], most[3], most[4]
     );
 }
 
@@ -198,6 +215,7 @@ fn main() {
     });
     censuses(&plants);
     examinations(&plants);
+    loads();
     stacks(&plants);
     census_beside_choice("with a design", &plants, with_design);
     census_beside_choice("without a design", &plants, |plant| !with_design(plant));
