@@ -44,6 +44,7 @@ int main(void)
         0, bits(150.0f),      /* solids */
         0, bits(46.0f),       /* nitrogen */
         0, bits(8.0f),        /* phosphorus */
+        0,                    /* dose of external carbon */
         300, 75, 20           /* fraction, return ratio, thickening time */
     };
     uint8_t request[PEWGULL_EXAMINE_LENGTH];

@@ -17,12 +17,12 @@
  *   - The page and *written overlap neither the request or log nor each other.
  *   - No alignment is needed for the request, the log or the page.
  *
- * The request, version 1: 32-bit unsigned numbers, little-endian, no padding.
+ * The request, version 2: 32-bit unsigned numbers, little-endian, no padding.
  * Data outside their ranges are refused with a number; every other number is
  * answered for.
  *
  *   word   bytes      what
- *   0      0..3       version: 1
+ *   0      0..3       version: 2
  *   1      4..7       raw BOD5 load, 1..100000 kg/d
  *   2      8..11      daily flow, 1..200000 m3/d
  *   3      12..15     wet weather flow, 1..50000 m3/h
@@ -47,10 +47,12 @@
  *   23,24  92..99     reading of solids, 0..2000 mg/l
  *   25,26  100..107   reading of nitrogen, 0..500 mg/l
  *   27,28  108..115   reading of phosphorus, 0..100 mg/l
+ *   29     116..119   dose of external carbon, 0..500000 mg/m3 as COD; 0 where
+ *                     nothing is dosed
  *                     A request to choose or for a census ends here.
- *   29     116..119   fraction, 200..500 thousandths
- *   30     120..123   return ratio, 30..75 (vertical flow 30..100) hundredths
- *   31     124..127   thickening time, 20..25 tenths of an hour
+ *   30     120..123   fraction, 200..500 thousandths
+ *   31     124..127   return ratio, 30..75 (vertical flow 30..100) hundredths
+ *   32     128..131   thickening time, 20..25 tenths of an hour
  *                     A request to examine or to explain ends here.
  *
  *   Kind of a reading and its value: 0 measured, the bits of a binary32 in
@@ -88,18 +90,18 @@ extern "C" {
 #endif
 
 /* Word 0 of a request. */
-#define PEWGULL_VERSION 1
+#define PEWGULL_VERSION 2
 
 /* Lengths of a request, in bytes. */
-#define PEWGULL_CHOOSE_LENGTH 116
-#define PEWGULL_EXAMINE_LENGTH 128
-#define PEWGULL_EXPLAIN_LENGTH 128
+#define PEWGULL_CHOOSE_LENGTH 120
+#define PEWGULL_EXAMINE_LENGTH 132
+#define PEWGULL_EXPLAIN_LENGTH 132
 
 /* A page of this length takes every listing. */
 #define PEWGULL_PAGE_LENGTH 512
 
 /* Bytes that pewgull_explain writes, and the least length of its page. */
-#define PEWGULL_FIGURES_LENGTH 56
+#define PEWGULL_FIGURES_LENGTH 72
 
 /* Bytes that pewgull_census writes, and the least length of its page. */
 #define PEWGULL_CENSUS_LENGTH 256
@@ -123,7 +125,7 @@ extern "C" {
 #define PEWGULL_DAY_LOG 12       /* a day log of another count or length */
 #define PEWGULL_DAY_VALUE 13     /* a value of a day not finite, below zero or too large */
 #define PEWGULL_BAD_LENGTH 101   /* request of another length: nothing written */
-#define PEWGULL_BAD_VERSION 102  /* request of another version: nothing written */
+#define PEWGULL_BAD_VERSION 102  /* request of another version, which is tested first: nothing written */
 #define PEWGULL_BAD_KIND 103     /* an unknown kind in a request: nothing written */
 
 /*
@@ -150,21 +152,24 @@ uint32_t pewgull_choose(const uint8_t *request, size_t request_length,
 /*
  * Gives the figures that the candidate of a request of
  * PEWGULL_EXPLAIN_LENGTH bytes is judged by, whatever refusals 7 to 10 say
- * of it. Gives 0 and writes PEWGULL_FIGURES_LENGTH bytes, seven 64-bit
+ * of it. Gives 0 and writes PEWGULL_FIGURES_LENGTH bytes, nine 64-bit
  * unsigned numbers, little-endian:
  *
  *   bytes    what                                   held to
- *   0..7     nitrate to be removed, mg/m3           at most the next (7)
- *   8..15    nitrate the tank can remove, mg/m3
- *   16..23   solids, g/m3                           at least 1,000 (8)
- *   24..31   diluted sludge volume, l/m3            at most 600 (8)
- *   32..39   settling surface, m2                   at most the site's (9)
- *   40..47   settling depth, mm                     at most the site's (10)
- *   48..55   the verdict: 0 where all of these are kept, else the number of
+ *   0..7     nitrate to be removed, mg/m3
+ *   8..15    nitrate removed by the tank's BOD, mg/m3
+ *   16..23   nitrate removed by the dose, mg/m3
+ *   24..31   nitrate the tank can remove, the sum   at least the first (7)
+ *            of the two before it, mg/m3
+ *   32..39   solids, g/m3                           at least 1,000 (8)
+ *   40..47   diluted sludge volume, l/m3            at most 600 (8)
+ *   48..55   settling surface, m2                   at most the site's (9)
+ *   56..63   settling depth, mm                     at most the site's (10)
+ *   64..71   the verdict: 0 where all of these are kept, else the number of
  *            the first of 7 to 10 that is broken
  *
- * Gives 1 to 4 or 6 and writes 56 bytes of zeros. Gives 11 for a page of
- * fewer than 56 bytes, or 101 to 103, and writes nothing.
+ * Gives 1 to 4 or 6 and writes 72 bytes of zeros. Gives 11 for a page of
+ * fewer than 72 bytes, or 101 to 103, and writes nothing.
  */
 uint32_t pewgull_explain(const uint8_t *request, size_t request_length,
                          uint8_t *page, size_t page_length,

@@ -6,7 +6,7 @@ use lib.Dec.{leb}
 use lib.Ieee
 use lib.Ieee.{Float, nan, inf, fin, binary32, ofBits, toBits, lt, le, mul, round}
 use lib.Ieee.Nearest.{closest}
-use Rattle.rules.specs.PlantData.{plantFigures, plantInRange}
+use Rattle.rules.specs.PlantData.{figuresWithoutDose, plantFigures, plantInRange}
 use Rattle.rules.specs.LabReadings
 use Rattle.rules.specs.LabReadings.{noNumber, thousandths, readingNoNumber, codRatioBroken}
 use Rattle.rules.specs.Accepting
@@ -120,6 +120,7 @@ unfolding
     Accepting.dataRules
     Accepting.acceptBy
     accept
+    figuresWithoutDose
     plantFigures
     plantInRange
     Cases.variant

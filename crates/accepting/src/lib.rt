@@ -55,6 +55,7 @@ pub fn plant_in_range(plant: Plant) -> bool
         & rounding::within(6_000, 15_000, plant.oxygen_saturation)
         & rounding::within(1, 100_000, plant.site_surface)
         & rounding::within(3_000, 10_000, plant.site_depth)
+        & rounding::within(0, 500_000, plant.dose)
 }
 
 // The f32 is not finite, or below zero: a NaN fails both comparisons, and minus zero passes them.

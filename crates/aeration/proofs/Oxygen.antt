@@ -3,10 +3,8 @@
 use Prim.Native.Nat.{ℕ, _+_, _*_, _≤_}
 use native.Mathlib.Nat.{mul-le-mul, mul-le-mul-left, le-trans}
 use native.Mathlib.Omega.{arith}
-use lib.Dec.{T, leb→le}
 use Rattle.rules.specs.Rounding.{up}
-use Rattle.rules.specs.AgeNitrate.{covered}
-use Rattle.rules.specs.AerationSteps.{aerationUptake, carbonOxygen, savedOxygen}
+use Rattle.rules.specs.AerationSteps.{aerationUptake, carbonOxygen, denitrifiedByBod, savedOxygen}
 use Rattle.rules.specs.Limits.{mostCapacity}
 use Rattle.rules.specs.Ranges.{GridFraction, PlantRanges}
 use Rattle.rules.specs.ReactorSteps.{reactorOf}
@@ -14,7 +12,7 @@ use Rattle.rules.specs.declared.Plant.{Plant}
 use Rattle.rules.specs.declared.Concentrations.{Concentrations}
 use Rattle.rules.proofs.Quotients.{up-le}
 use Rattle.rules.proofs.Examined.{FractionKept}
-use Rattle.rules.proofs.NitrateColumns.{fraction-covered}
+use Rattle.rules.proofs.NitrateColumns.{left-covered, fraction-covered}
 use Rattle.reactor.proofs.Bounds.{removes-most}
 
 -- the specific uptake levels off below 560 + 883
@@ -26,24 +24,24 @@ uptake-most u = omega (arith, up-le (15000 * u) (100000 + 17 * u) 883 (omega ari
 pub carbon-product : (flow bod uptake : ℕ) → flow ≤ 200_000 → bod ≤ 2_000_000 → uptake ≤ 1_443 → flow * bod * uptake ≤ 577_200_000_000_000
 carbon-product flow bod uptake hf hb hu = mul-le-mul (mul-le-mul hf hb) hu
 
--- where the nitrate is covered, saved oxygen is at most carbon's, so that nothing is cut off
-saved-at-most : (flow bod uptake removes d : ℕ) → 560 ≤ uptake → removes ≤ mostCapacity * bod → T (covered removes d) → savedOxygen flow d ≤ carbonOxygen flow bod uptake
-unfolding covered savedOxygen carbonOxygen
-saved-at-most flow bod uptake removes d hu hk t =
-    let cover : 1000 * d ≤ removes = leb→le (1000 * d) removes t in
+-- where the tank's BOD covers a nitrate, the oxygen saved on it is at most carbon's, so that nothing is cut off
+saved-at-most : (flow bod uptake removes d : ℕ) → 560 ≤ uptake → removes ≤ mostCapacity * bod → 1000 * d ≤ removes → savedOxygen flow d ≤ carbonOxygen flow bod uptake
+unfolding savedOxygen carbonOxygen
+saved-at-most flow bod uptake removes d hu hk cover =
     let removed : flow * (1000 * d) ≤ flow * (193 * bod) = mul-le-mul-left flow (le-trans cover hk) in
     let taken : flow * bod * 560 ≤ flow * bod * uptake = mul-le-mul-left (flow * bod) hu in
     omega arith
 
--- the same of every fraction of the grid that keeps its rules, with plant data in range
+-- the same of every fraction of the grid that keeps its rules, with plant data in range, whatever the dose
 pub saved-at-most-carbon :
     (p : Plant) (x : Concentrations) (f u : ℕ)
     → PlantRanges p
     → GridFraction f
     → FractionKept p x f
-    → savedOxygen (p .flow) (reactorOf p x f .denitrified) ≤ carbonOxygen (p .flow) (x .bod) (aerationUptake u)
-unfolding aerationUptake
+    → savedOxygen (p .flow) (denitrifiedByBod (reactorOf p x f .denitrified) (reactorOf p x f .«removed_by_dose»))
+    ≤ carbonOxygen (p .flow) (x .bod) (aerationUptake u)
+unfolding aerationUptake denitrifiedByBod
 saved-at-most-carbon p x f u hp hf kept =
-    saved-at-most (p .flow) (x .bod) (560 + up (15000 * u) (100000 + 17 * u)) (reactorOf p x f .removes) (reactorOf p x f .denitrified) (omega arith)
+    saved-at-most (p .flow) (x .bod) (560 + up (15000 * u) (100000 + 17 * u)) (reactorOf p x f .removes) _ (omega arith)
     (removes-most p x f hp hf)
-    (fraction-covered p x f kept)
+    (left-covered (reactorOf p x f .removes) (reactorOf p x f .«removed_by_dose») (reactorOf p x f .denitrified) (fraction-covered p x f kept))

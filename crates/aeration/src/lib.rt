@@ -8,7 +8,7 @@ ghost use mathlib.Core.Path.{_≡_};
 ghost use Prim.Native.Nat.{_-_, _*_, _≤_};
 ghost use Rattle.rules.specs.Rounding.{up};
 ghost use Rattle.rules.specs.Limits.{mostNitrogen};
-ghost use Rattle.rules.specs.AerationSteps.{aerationUptake, carbonOxygen, nitrificationOxygen, savedOxygen, hourlyOxygen, oxygenTransfer, recirculation, aerationOf};
+ghost use Rattle.rules.specs.AerationSteps.{aerationUptake, carbonOxygen, nitrificationOxygen, denitrifiedByBod, savedOxygen, hourlyOxygen, oxygenTransfer, recirculation, aerationOf};
 ghost use Rattle.rules.specs.Ranges.{Between, PlantRanges, ConcentrationRanges, ReactorBounds};
 
 // Specific oxygen uptake for aeration, g/kg.
@@ -35,7 +35,15 @@ fn nitrification_oxygen(flow: u64, nitrified: u64) -> u64
     rounding::round_up(43 * flow * nitrified, 10_000)
 }
 
-// Oxygen saved by denitrification, g/d.
+// The nitrate that is left to the tank's BOD, mg/m3.
+fn denitrified_by_bod(denitrified: u64, by_dose: u64) -> u64
+    requires { ⌜ denitrified ≤ mostNitrogen ⌝ }
+    ensures { λ r. ⌜ (r ≡ denitrifiedByBod denitrified «by_dose») × (r ≤ mostNitrogen) ⌝ }
+{
+    rounding::less(denitrified, by_dose)
+}
+
+// Oxygen saved by the nitrate that the tank's BOD denitrifies, g/d.
 fn saved_oxygen(flow: u64, denitrified: u64) -> u64
     requires { ⌜ (flow ≤ 200_000) × (denitrified ≤ mostNitrogen) ⌝ }
     ensures { λ r. ⌜ r ≡ savedOxygen flow denitrified ⌝ }
@@ -107,7 +115,8 @@ pub fn aeration(plant: Plant, concentrations: Concentrations, reactor: Reactor) 
     let bod = concentrations.bod;
     let nitrified = reactor.nitrified;
     let uptake = aeration_uptake(reactor::corrected_age(reactor.age, temperature));
-    let net = net_carbon(flow, bod, uptake, reactor.denitrified);
+    let own = denitrified_by_bod(reactor.denitrified, reactor.removed_by_dose);
+    let net = net_carbon(flow, bod, uptake, own);
     let nitrification = nitrification_oxygen(flow, nitrified);
     let oxygen = hourly_oxygen(net, nitrification, carbon_peak, nitrogen_peak);
     let transfer = oxygen_transfer(saturation, oxygen);

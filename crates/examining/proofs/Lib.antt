@@ -2,3 +2,4 @@
 pub mod Verdicts
 pub mod WrongExaminers
 pub mod Refuted
+pub mod WrongDoses

@@ -30,14 +30,14 @@ abbrev Wrong : (Plant → Readings → Candidate → Answer) → Type 0
 Wrong answer = ((p : Plant) (r : Readings) (y : Candidate) → answer p r y ≡ examine p r y) → ⊥
 
 -- a figure of the definition is the right one, and the wrong one is another
-abbrev Differ : (figure right wrong : ℕ) → Type 0
+abbrev pub Differ : (figure right wrong : ℕ) → Type 0
 Differ figure right wrong = (figure ≡ right) × (right ≡ wrong → ⊥)
 
 -- what a plant gets with Case A's readings
-abbrev answerAt : Plant → ℕ → ℕ → ℕ → Answer
+abbrev pub answerAt : Plant → ℕ → ℕ → ℕ → Answer
 answerAt p f r h = examine p readingsA (candidate f r h)
 
-abbrev sheetAt : Plant → ℕ → ℕ → ℕ → Sheet
+abbrev pub sheetAt : Plant → ℕ → ℕ → ℕ → Sheet
 sheetAt p f r h = answerSheet (answerAt p f r h)
 
 -- Case A's plant with another process and nitrate target
@@ -51,7 +51,7 @@ simultaneous = withProcess Process.Simultaneous 9_000
 abbrev numberBy : (ℕ → ℕ) → ℕ → ℕ
 numberBy uptake f =
     let reactor = reactorOf simultaneous concentrationsA f in
-    cond (covered (down (75 * f * uptake (correctedAge (reactor .age) 12)) 290_000 * 200_000) (reactor .denitrified)) 0 7
+    cond (covered (down (75 * f * uptake (correctedAge (reactor .age) 12)) 290_000 * 200_000) (reactor .«removed_by_dose») (reactor .denitrified)) 0 7
 
 -- its hourly oxygen, by a rounding of o for the aeration
 abbrev oxygenBy : (ℕ → ℕ) → ℕ → ℕ

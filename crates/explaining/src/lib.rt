@@ -21,9 +21,13 @@ fn explained(plant: Plant, concentrations: Concentrations, candidate: Candidate)
     let reactor = stages.reactor;
     let settling = stages.settling;
     let verdict = stages.verdict;
+    let removed_by_bod = reactor.removes / 1000;
+    let removed_by_dose = reactor.removed_by_dose;
     Explained {
         denitrified: reactor.denitrified,
-        removable: reactor.removes / 1000,
+        removed_by_bod,
+        removed_by_dose,
+        removable: removed_by_bod + removed_by_dose,
         solids: settling.solids,
         sludge_volume: settling.sludge_volume,
         surface: settling.surface,

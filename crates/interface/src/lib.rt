@@ -106,6 +106,8 @@ fn explanation_figures(explanation: Explanation) -> Explained
         Explanation::Figures(figures) => figures,
         Explanation::Refused(_) => Explained {
             denitrified: 0,
+            removed_by_bod: 0,
+            removed_by_dose: 0,
             removable: 0,
             solids: 0,
             sludge_volume: 0,
@@ -150,6 +152,8 @@ fn put_explanation(explanation: Explanation, page: &mut [u8], written: &mut u64)
     let verdict = explained.verdict;
     let figures = [
         explained.denitrified,
+        explained.removed_by_bod,
+        explained.removed_by_dose,
         explained.removable,
         explained.solids,
         explained.sludge_volume,

@@ -1,4 +1,4 @@
--- The wrong programs that document 01 names, in one place: for each the theorem that its answer does not keep the promise
+-- The wrong programs that the papers name, in one place: for each the theorem that its answer does not keep the promise
 -- on concrete data. The edits beside them, which the prover refuses, are in must-fail/ of the crates named here.
 -- Assumes nothing.
 
@@ -13,8 +13,13 @@ pub use Rattle.choosing.proofs.Refuted.{case-A-listing, sheet-of-zeros, ties-to
 -- sludge volume loading taken in the depth where the overflow rate is held: fields of one record
 pub use Rattle.examining.proofs.WrongExaminers.{Refuted}
 pub use Rattle.examining.proofs.Refuted.{refuted}
--- every candidate explained as off the grid, or by the figures of one; no rule found broken where one is
-pub use Rattle.explaining.proofs.Refuted.{always-off-grid, one-candidate-explained, verdict-always-kept}
+-- the dose of external carbon: 200 × dose in the cover or in the right column, its fifth rounded up, oxygen saved on
+-- the whole nitrate or below 0, the dose taken off the nitrogen to nitrify or counted in the sludge, its range off by one:
+-- fields of one record
+pub use Rattle.examining.proofs.WrongDoses.{WrongDoses, wrong-doses}
+-- every candidate explained as off the grid, or by the figures of one; no rule found broken where one is; the dose left out
+-- of the right column, or its parts exchanged
+pub use Rattle.explaining.proofs.Refuted.{always-off-grid, one-candidate-explained, verdict-always-kept, dosed-columns}
 -- every page refused; a page left as it was, written past the listing's end, or written in part
 pub use Rattle.listing.proofs.Refuted.{not-refused, not-untouched, not-past-the-end, not-in-part}
 -- a reading scaled in floating point, and other wrong conversions

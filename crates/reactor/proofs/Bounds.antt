@@ -5,17 +5,12 @@ use native.Mathlib.Omega.{arith}
 use Rattle.rules.specs.Limits.{mostAge, mostNitrogen, mostCapacity, mostSludge}
 use Rattle.rules.specs.Ranges.{GridFraction, PlantRanges, ConcentrationRanges, ReactorBounds}
 use Rattle.rules.specs.AgeNitrate.{safetyFactor, aerobicAge, sludgeAge, correctedAge, nitrified, capacity}
-use Rattle.rules.specs.ReactorSteps.{carbonSludge, phosphorusSludge, sludgePerPhosphorus, reactorOf}
+use Rattle.rules.specs.ReactorSteps.{sludgeProduction, reactorOf}
 use Rattle.rules.specs.declared.Plant.{Plant}
 use Rattle.rules.specs.declared.Concentrations.{Concentrations}
 use Rattle.reactor.proofs.AgeLimits.{safety-factor-most, aerobic-age-most, sludge-age-most}
-use Rattle.reactor.proofs.NitrateLimits.{nitrified-most, denitrified-most, capacity-most}
-use Rattle.reactor.proofs.SludgeLimits.{
-  carbon-sludge-most,
-  sludge-per-phosphorus-most,
-  phosphorus-sludge-most,
-  sludge-mass-most,
-}
+use Rattle.reactor.proofs.NitrateLimits.{nitrified-most, denitrified-most, capacity-most, removed-by-dose-most}
+use Rattle.reactor.proofs.SludgeLimits.{sludge-production-most, sludge-mass-most}
 
 pub reactor-bounds :
     (p : Plant) (x : Concentrations) (f : ℕ) →
@@ -28,8 +23,9 @@ reactor-bounds p x f hp hx hf =
       nitrified = w-most;
       denitrified = denitrified-most (nitrified (x .nitrogen) (x .bod)) (p .«nitrate_target») w-most;
       removes = omega (arith, mul-le-mul k-most (hx .bod .most));
+      byDose = removed-by-dose-most (p .dose) (hp .dose .most);
       sludge = s-most;
-      mass = sludge-mass-most t (reactorOf p x f .sludge) t-most s-most;
+      mass = sludge-mass-most t (sludgeProduction p x (correctedAge t (p .«design_temperature»))) t-most s-most;
     }
   where
     factor : ℕ
@@ -50,24 +46,8 @@ reactor-bounds p x f hp hx hf =
     w-most : nitrified (x .nitrogen) (x .bod) ≤ mostNitrogen
     w-most = nitrified-most (x .nitrogen) (x .bod) (hx .nitrogen .most)
 
-    carbon : carbonSludge (p .flow) (x .bod) (x .solids) (correctedAge t (p .«design_temperature»)) ≤ 540_000_000
-    carbon =
-        carbon-sludge-most (p .flow) (x .bod) (x .solids) (correctedAge t (p .«design_temperature»))
-        (hp .flow .most)
-        (hx .bod .most)
-        (hx .solids .most)
-
-    phosphorus :
-        phosphorusSludge (p .flow) (sludgePerPhosphorus (p .precipitant)) (x .phosphorus) (p .«phosphorus_target») (x .bod)
-        ≤ 136_000_000
-    phosphorus =
-        phosphorus-sludge-most (p .flow) (sludgePerPhosphorus (p .precipitant)) (x .phosphorus) (p .«phosphorus_target») (x .bod)
-        (hp .flow .most)
-        (sludge-per-phosphorus-most (p .precipitant))
-        (hx .phosphorus .most)
-
-    s-most : reactorOf p x f .sludge ≤ mostSludge
-    s-most = omega (arith, carbon, phosphorus)
+    s-most : sludgeProduction p x (correctedAge t (p .«design_temperature»)) ≤ mostSludge
+    s-most = sludge-production-most p x (correctedAge t (p .«design_temperature»)) hp hx
 
 -- what the tank removes is at most 193 for each part of BOD
 pub removes-most : (p : Plant) (x : Concentrations) (f : ℕ) → PlantRanges p → GridFraction f → reactorOf p x f .removes ≤ mostCapacity * x .bod

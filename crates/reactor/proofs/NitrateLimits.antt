@@ -6,7 +6,7 @@ use native.Mathlib.Nat.{mul-le-mul}
 use native.Mathlib.Omega.{arith}
 use Rattle.rules.specs.Rounding.{down}
 use Rattle.rules.specs.Ranges.{Between}
-use Rattle.rules.specs.AgeNitrate.{nitrified, denitrified, tableCapacity, risenCapacity, capacityUptake, uptakeCapacity, capacity}
+use Rattle.rules.specs.AgeNitrate.{nitrified, denitrified, tableCapacity, risenCapacity, capacityUptake, uptakeCapacity, capacity, removedByDose}
 use Rattle.rules.specs.declared.Process.{Process}
 use Rattle.reactor.proofs.EachOf.{largest}
 use Rattle.reactor.proofs.Limits.{levels-off}
@@ -55,3 +55,7 @@ capacity-most Process.PreAnoxic fraction n u b h = risen-capacity-most (tableCap
 capacity-most Process.Simultaneous fraction n u b h = uptake-capacity-most fraction u (b .most)
 capacity-most Process.Intermittent fraction n u b h = uptake-capacity-most fraction u (b .most)
 capacity-most (Process.StepFeed steps) fraction n u b h = risen-capacity-most (tableCapacity fraction) n (table-capacity-most fraction b) h
+
+pub removed-by-dose-most : (dose : ℕ) → dose ≤ 500_000 → removedByDose dose ≤ 100_000
+unfolding removedByDose
+removed-by-dose-most dose h = omega arith

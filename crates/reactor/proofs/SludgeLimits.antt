@@ -2,7 +2,11 @@
 use Prim.Native.Nat.{ℕ, _+_, _-_, _*_, _≤_}
 use native.Mathlib.Nat.{mul-le-mul, sub-le}
 use native.Mathlib.Omega.{arith}
-use Rattle.rules.specs.ReactorSteps.{biomassDecay, carbonSludge, sludgePerPhosphorus, phosphorusSludge, sludgeMass}
+use Rattle.rules.specs.ReactorSteps.{biomassDecay, carbonSludge, sludgePerPhosphorus, phosphorusSludge, sludgeProduction, sludgeMass}
+use Rattle.rules.specs.Limits.{mostSludge}
+use Rattle.rules.specs.Ranges.{PlantRanges, ConcentrationRanges}
+use Rattle.rules.specs.declared.Plant.{Plant}
+use Rattle.rules.specs.declared.Concentrations.{Concentrations}
 use Rattle.rules.specs.declared.Precipitant.{Precipitant}
 use Rattle.rules.specs.Rounding.{down}
 use Rattle.reactor.proofs.Limits.{levels-off}
@@ -41,6 +45,21 @@ pub phosphorus-sludge-most :
 unfolding phosphorusSludge
 phosphorus-sludge-most flow k phosphorus target bod hf hk hp =
     omega (arith, phosphorus-product flow k (phosphorus - target - down bod 100) hf hk (omega arith))
+
+pub sludge-production-most :
+    (p : Plant) (x : Concentrations) (u : ℕ) → PlantRanges p → ConcentrationRanges x → sludgeProduction p x u ≤ mostSludge
+unfolding sludgeProduction
+sludge-production-most p x u hp hx =
+    let carbon = carbon-sludge-most (p .flow) (x .bod) (x .solids) u (hp .flow .most) (hx .bod .most) (hx .solids .most) in
+    let k = sludge-per-phosphorus-most (p .precipitant) in
+    omega (
+      arith,
+      carbon,
+      phosphorus-sludge-most (p .flow) (sludgePerPhosphorus (p .precipitant)) (x .phosphorus) (p .«phosphorus_target») (x .bod)
+          (hp .flow .most)
+          k
+          (hx .phosphorus .most),
+    )
 
 -- the product that the mass rounds
 pub mass-product : (age sludge : ℕ) → age ≤ 20_000 → sludge ≤ 700_000_000 → age * sludge ≤ 14_000_000_000_000

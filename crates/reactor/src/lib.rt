@@ -24,17 +24,16 @@ pub use sludge::biomass_decay;
 pub use volume::reactor_solids;
 pub use volume::reactor_volume;
 
-// f, t, W, D, K × C, S and M at a fraction of the grid.
+// f, t, W, D, K × C, what the dose removes, S and M at a fraction of the grid.
 pub fn reactor(plant: Plant, concentrations: Concentrations, fraction: u32) -> Reactor
     requires { ⌜ PlantRanges plant × ConcentrationRanges concentrations × GridFraction fraction ⌝ }
     ensures { λ r. ⌜ (r ≡ reactorOf plant concentrations fraction) × ReactorBounds r ⌝ }
 {
     let f = fraction as u64;
     let temperature = plant.design_temperature as u64;
-    let flow = plant.flow as u64;
+    let dose = plant.dose as u64;
     let bod = concentrations.bod;
     let process = plant.process;
-    let precipitant = plant.precipitant;
     let age = age::sludge_age(
         age::aerobic_age(age::safety_factor(plant.load as u64), temperature),
         f,
@@ -43,24 +42,17 @@ pub fn reactor(plant: Plant, concentrations: Concentrations, fraction: u32) -> R
     let nitrified = nitrate::nitrified(concentrations.nitrogen, bod);
     let denitrified = nitrate::denitrified(nitrified, plant.nitrate_target as u64);
     let capacity = nitrate::capacity(process, f, temperature, corrected);
-    let carbon = sludge::carbon_sludge(flow, bod, concentrations.solids, corrected);
-    let k = sludge::sludge_per_phosphorus(precipitant);
-    let phosphorus = sludge::phosphorus_sludge(
-        flow,
-        k,
-        concentrations.phosphorus,
-        plant.phosphorus_target as u64,
-        bod,
-    );
-    let sludge = carbon + phosphorus;
-    let mass = sludge::sludge_mass(age, sludge);
     let removes = capacity * bod;
+    let removed_by_dose = nitrate::removed_by_dose(dose);
+    let sludge = sludge::sludge_production(plant, concentrations, corrected);
+    let mass = sludge::sludge_mass(age, sludge);
     Reactor {
         fraction: f,
         age,
         nitrified,
         denitrified,
         removes,
+        removed_by_dose,
         sludge,
         mass,
     }
@@ -71,6 +63,10 @@ pub fn fraction_verdict(reactor: Reactor) -> Verdict
     requires { ⌜ ReactorBounds reactor ⌝ }
     ensures { λ r. ⌜ r ≡ verdict (fractionRules reactor) ⌝ }
 {
-    let covered = nitrate::covered(reactor.removes, reactor.denitrified);
+    let covered = nitrate::covered(
+        reactor.removes,
+        reactor.removed_by_dose,
+        reactor.denitrified,
+    );
     verdicts::rule(covered, Refusal::Nitrate, Verdict::Kept)
 }

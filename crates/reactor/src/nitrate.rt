@@ -2,9 +2,9 @@
 use rules::Process;
 ghost use mathlib.Core.Path.{_≡_};
 ghost use Prim.Native.Nat.{_+_, _-_, _*_, _≤_, _<_};
-ghost use Rattle.rules.specs.AgeNitrate.{nitrified, denitrified, tableCapacity, risenCapacity, capacityUptake, uptakeCapacity, capacity, covered};
+ghost use Rattle.rules.specs.AgeNitrate.{nitrified, denitrified, tableCapacity, risenCapacity, capacityUptake, uptakeCapacity, capacity, removedByDose, covered};
 ghost use Rattle.rules.specs.Ranges.{GridFraction};
-ghost use Rattle.rules.specs.Limits.{mostTemperature, mostFraction, mostNitrogen, mostCapacity};
+ghost use Rattle.rules.specs.Limits.{mostTemperature, mostFraction, mostNitrogen, mostCapacity, mostRemoves, mostDose, mostRemovedByDose};
 
 // W, nitrogen to nitrify, mg/m3.
 pub(crate) fn nitrified(nitrogen: u64, bod: u64) -> u64
@@ -77,10 +77,18 @@ pub(crate) fn capacity(process: Process, fraction: u64, temperature: u64, correc
     }
 }
 
-// Whether what the tank removes covers the nitrate to denitrify.
-pub(crate) fn covered(removes: u64, denitrified: u64) -> bool
-    requires { ⌜ denitrified ≤ mostNitrogen ⌝ }
-    ensures { λ r. ⌜ r ≡ covered removes denitrified ⌝ }
+// The nitrate that external carbon removes, mg/m3.
+pub(crate) fn removed_by_dose(dose: u64) -> u64
+    requires { ⌜ dose ≤ mostDose ⌝ }
+    ensures { λ r. ⌜ (r ≡ removedByDose dose) × (r ≤ mostRemovedByDose) ⌝ }
 {
-    removes >= 1000 * denitrified
+    dose / 5
+}
+
+// Whether the tank's BOD and the dose cover the nitrate to denitrify.
+pub(crate) fn covered(removes: u64, by_dose: u64, denitrified: u64) -> bool
+    requires { ⌜ (removes ≤ mostRemoves) × («by_dose» ≤ mostRemovedByDose) × (denitrified ≤ mostNitrogen) ⌝ }
+    ensures { λ r. ⌜ r ≡ covered removes «by_dose» denitrified ⌝ }
+{
+    removes + 1000 * by_dose >= 1000 * denitrified
 }

@@ -21,11 +21,11 @@ use Rattle.request.specs.declared.Decoded.{Decoded}
 
 -- the newest version
 abbrev pub version : ℕ
-version = 1
+version = 2
 
 -- the data's words, and the own words of a call that is asked of a candidate
 abbrev pub dataWords : ℕ
-dataWords = 29
+dataWords = 30
 
 abbrev pub candidateWords : ℕ
 candidateWords = 3
@@ -37,7 +37,7 @@ requestLength own = 4 * (dataWords + own)
 abbrev pub longestRequest : ℕ
 longestRequest = 4_096
 
--- the plant with these kinds, its figures the words 1 to 13 of the data
+-- the plant with these kinds, its figures the words 1 to 13 and 29 of the data
 abbrev pub plantWith : List ℕ → Process → Precipitant → TankFlow → Removal → PrimarySettling → Plant
 plantWith words process precipitant tank removal settling =
     record {
@@ -59,6 +59,7 @@ plantWith words process precipitant tank removal settling =
       tank = tank;
       removal = removal;
       «primary_settling» = settling;
+      dose = getD words 29 0;
     }
 
 -- the plant, with the kinds of the words 14 to 18
@@ -96,19 +97,22 @@ kindsKnown words =
     && leb (getD words 25 0) 2
     && leb (getD words 27 0) 2
 
--- the data's words decoded: 102 and 103 in order, else what they hold
+-- the data's words decoded: 103, else what they hold
 unfoldable pub decodeWords : List ℕ → Decoded
 decodeWords words =
-    cond (eqb (getD words 0 0) version)
-    (cond (kindsKnown words)
+    cond (kindsKnown words)
     (Decoded.Data (record { plant = plantOf words; readings = readingsOf words }))
-    (Decoded.Malformed Fault.Kind))
-    (Decoded.Malformed Fault.Version)
+    (Decoded.Malformed Fault.Kind)
 
--- the data of a request for a call with so many own words: 101 by its length, else what its data are decoded to
+-- the data of a request for a call with so many own words: 102 by its first word, which a version of another length has
+-- too; then 101 by its length, also where there is no first word; else what its data are decoded to
 unfoldable pub decode : List ℕ → ℕ → Decoded
 decode bytes own =
-    cond (eqb (length bytes) (requestLength own)) (decodeWords (wordsFrom bytes 0 dataWords)) (Decoded.Malformed Fault.Length)
+    cond (leb 4 (length bytes))
+    (cond (eqb (word bytes 0) version)
+    (cond (eqb (length bytes) (requestLength own)) (decodeWords (wordsFrom bytes 0 dataWords)) (Decoded.Malformed Fault.Length))
+    (Decoded.Malformed Fault.Version))
+    (Decoded.Malformed Fault.Length)
 
 -- the candidate that a call is asked of: the first three of its own words, which come after the data
 abbrev pub askedCandidate : List ℕ → Candidate

@@ -22,7 +22,8 @@ pub struct Data {
     pub readings: Readings,
 }
 
-// What is wrong with a malformed request, in the order of the tests: its length, its version, or a kind's code.
+// What is wrong with a malformed request: its length, its version, or a kind's code. The version is tested first, where
+// there is one.
 pub enum Fault {
     Length,
     Version,
@@ -36,10 +37,10 @@ pub enum Decoded {
 }
 
 // The newest version, the only one that is answered.
-const VERSION: u32 = 1;
+const VERSION: u32 = 2;
 
-// The words of the data: version, plant and readings.
-const DATA_WORDS: usize = 29;
+// The words of the data: version, plant, readings and dose.
+const DATA_WORDS: usize = 30;
 
 // The own words of a call that is asked of a candidate.
 pub const CANDIDATE_WORDS: usize = 3;
@@ -125,7 +126,7 @@ fn kinds_known(words: [u32; DATA_WORDS]) -> bool
         & (words[27] <= 2)
 }
 
-// The plant, words 1 to 18.
+// The plant, words 1 to 18 and 29.
 fn plant(words: [u32; DATA_WORDS]) -> Plant
     ensures { λ r. ⌜ r ≡ plantOf words ⌝ }
 {
@@ -148,6 +149,7 @@ fn plant(words: [u32; DATA_WORDS]) -> Plant
         tank: tank_flow(words[16]),
         removal: removal(words[17]),
         primary_settling: primary_settling(words[18]),
+        dose: words[29],
     }
 }
 
@@ -168,9 +170,6 @@ fn readings(words: [u32; DATA_WORDS]) -> Readings
 fn decode_words(words: [u32; DATA_WORDS]) -> Decoded
     ensures { λ r. ⌜ r ≡ decodeWords words ⌝ }
 {
-    if words[0] != VERSION {
-        return Decoded::Malformed(Fault::Version);
-    }
     if !kinds_known(words) {
         return Decoded::Malformed(Fault::Kind);
     }
@@ -185,6 +184,12 @@ pub fn decode(bytes: &[u8], own: usize) -> Decoded
     requires { ⌜ requestLength own ≤ longestRequest ⌝ }
     ensures { λ r. ⌜ r ≡ decode (now (bytes .entry)) own ⌝ }
 {
+    if bytes.len() < 4 {
+        return Decoded::Malformed(Fault::Length);
+    }
+    if words::word(bytes, 0) != VERSION {
+        return Decoded::Malformed(Fault::Version);
+    }
     if bytes.len() != 4 * (DATA_WORDS + own) {
         return Decoded::Malformed(Fault::Length);
     }

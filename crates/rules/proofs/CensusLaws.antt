@@ -138,7 +138,7 @@ rules-counted p x =
     let t = settlingOf p (y .«return_ratio») (y .thickening) in
     let f = reactorOf p x (y .fraction) in
     five-numbers
-    (covered (f .removes) (f .denitrified))
+    (covered (f .removes) (f .«removed_by_dose») (f .denitrified))
     (solidsKept (t .solids) (t .«sludge_volume»))
     (leb (t .surface) (p .«site_surface»))
     (leb (t .depth) (p .«site_depth»))

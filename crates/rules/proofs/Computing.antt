@@ -2,7 +2,7 @@
 -- unfolds `steps` unfolds all that is named here. Assumes nothing.
 use lib.Ieee.{round, ofBits}
 use Rattle.words.specs.Bytes
-use Rattle.rules.specs.PlantData.{plantFigures, plantInRange}
+use Rattle.rules.specs.PlantData.{figuresWithoutDose, plantFigures, plantInRange}
 use Rattle.rules.specs.LabReadings
 use Rattle.rules.specs.Accepting
 use Rattle.rules.specs.AgeNitrate
@@ -12,6 +12,7 @@ use Rattle.rules.specs.AerationSteps
 use Rattle.rules.specs.Examining
 use Rattle.rules.specs.Choosing
 use Rattle.rules.specs.Explaining
+use Rattle.rules.specs.WithoutDose.{withDose}
 use Rattle.rules.specs.Answers
 use Rattle.rules.specs.Listing
 use Rattle.rules.specs.Sums
@@ -25,6 +26,7 @@ unfolding
     ofBits
     Bytes.word
     Bytes.lowBytes
+    figuresWithoutDose
     plantFigures
     plantInRange
     LabReadings.noNumber
@@ -56,12 +58,15 @@ unfolding
     AgeNitrate.capacityUptake
     AgeNitrate.uptakeCapacity
     AgeNitrate.capacity
+    AgeNitrate.removedByBod
+    AgeNitrate.removedByDose
     AgeNitrate.removable
     AgeNitrate.covered
     ReactorSteps.biomassDecay
     ReactorSteps.carbonSludge
     ReactorSteps.sludgePerPhosphorus
     ReactorSteps.phosphorusSludge
+    ReactorSteps.sludgeProduction
     ReactorSteps.sludgeMass
     ReactorSteps.reactorOf
     SettlingSteps.rootFrom
@@ -85,10 +90,12 @@ unfolding
     AerationSteps.aerationUptake
     AerationSteps.carbonOxygen
     AerationSteps.nitrificationOxygen
+    AerationSteps.denitrifiedByBod
     AerationSteps.savedOxygen
     AerationSteps.hourlyOxygen
     AerationSteps.oxygenTransfer
     AerationSteps.recirculation
+    AerationSteps.aerationSaving
     AerationSteps.aerationOf
     Examining.totalOf
     Examining.sheetFrom
@@ -108,6 +115,7 @@ unfolding
     Explaining.explanationRules
     Choosing.candidateOf
     Choosing.candidateTotal
+    withDose
     Answers.emptySheet
     Answers.answerNumber
     Answers.answerSheet

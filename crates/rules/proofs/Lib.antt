@@ -15,6 +15,10 @@ pub mod HighestLoad
 pub mod DayLogLaws
 pub mod NitrateColumns
 pub mod OutcomeLaws
+pub mod WiderChoice
+pub mod NoDose
+pub mod StepsWithoutDose
+pub mod LargerDose
 pub mod ChosenOnce
 pub mod Numeral
 pub mod Computing

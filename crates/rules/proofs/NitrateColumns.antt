@@ -1,12 +1,14 @@
 -- The two columns that are read aloud: nitrate to be removed, and nitrate that the tank can remove. On every permitted
 -- candidate, and so on every sheet, the second is never the smaller. Assumes nothing.
+use mathlib.Core.Logic.{_↔_}
 use mathlib.Core.Path.{_≡_, refl, ap, sym, subst}
-use Prim.Native.Nat.{ℕ, _*_, _≤_}
+use Prim.Native.Nat.{ℕ, _+_, _-_, _*_, _≤_}
 use native.Mathlib.Omega.{arith}
-use lib.Dec.{T, leb→le}
+use lib.Dec.{T, leb→le, le→leb}
 use lib.Ieee.Fits.{and-l}
+use Rattle.rules.specs.Rounding.{down}
 use Rattle.rules.specs.Accepting.{accept}
-use Rattle.rules.specs.AgeNitrate.{removable, covered}
+use Rattle.rules.specs.AgeNitrate.{removedByBod, removable, covered}
 use Rattle.rules.specs.ReactorSteps.{reactorOf}
 use Rattle.rules.specs.Examining.{permitted, sheetFrom, sheetOf, examine}
 use Rattle.rules.specs.Choosing.{candidateOf, ChosenAccepted, Chosen}
@@ -22,21 +24,36 @@ use Rattle.rules.proofs.Quotients.{le-down}
 use Rattle.rules.proofs.AcceptedData.{accepted-none-due}
 use Rattle.rules.proofs.Examined.{FractionKept, permitted-keeps, sheet-when-kept, kept-when-permitted}
 
--- what is covered can be removed
-pub covered-removable : (removes d : ℕ) → T (covered removes d) → d ≤ removable removes
-unfolding covered removable
-covered-removable removes d t =
-    let h : 1000 * d ≤ removes = leb→le (1000 * d) removes t in
-    le-down removes 1000 d (omega arith) .1 (omega arith)
+-- what the dose leaves is covered by the tank's BOD
+pub left-covered : (removes byDose d : ℕ) → T (covered removes byDose d) → 1000 * (d - byDose) ≤ removes
+unfolding covered
+left-covered removes byDose d t =
+    let h : 1000 * d ≤ removes + 1000 * byDose = leb→le (1000 * d) (removes + 1000 * byDose) t in
+    omega arith
+
+-- the nitrate is covered exactly where it can be removed
+pub covered-removable : (removes byDose d : ℕ) → T (covered removes byDose d) ↔ (d ≤ removable removes byDose)
+unfolding covered removable removedByBod
+covered-removable removes byDose d =
+    let own = le-down removes 1000 (d - byDose) (omega arith) in (
+      λ t. let l : d - byDose ≤ down removes 1000 = own .1 (omega (arith, left-covered removes byDose d t)) in omega arith,
+      λ h. let m : (d - byDose) * 1000 ≤ removes = own .0 (omega arith) in le→leb (1000 * d) (removes + 1000 * byDose) (omega arith),
+    )
+
+-- at this fraction the nitrate is covered
+abbrev pub Covered : Plant → Concentrations → ℕ → Type 0
+Covered p x f = T (covered (reactorOf p x f .removes) (reactorOf p x f .«removed_by_dose») (reactorOf p x f .denitrified))
 
 -- a fraction that keeps its rules is covered
-pub fraction-covered : (p : Plant) (x : Concentrations) (f : ℕ) → FractionKept p x f → T (covered (reactorOf p x f .removes) (reactorOf p x f .denitrified))
-fraction-covered p x f t = and-l (covered (reactorOf p x f .removes) (reactorOf p x f .denitrified)) _ t
+pub fraction-covered : (p : Plant) (x : Concentrations) (f : ℕ) → FractionKept p x f → Covered p x f
+fraction-covered p x f t =
+    and-l (covered (reactorOf p x f .removes) (reactorOf p x f .«removed_by_dose») (reactorOf p x f .denitrified)) _ t
 
 -- The law of the two columns, of every permitted candidate.
 pub two-columns : (p : Plant) (x : Concentrations) (y : Candidate) → T (permitted p x y) → Removes p x (y .fraction)
 two-columns p x y t =
-    covered-removable (reactorOf p x (y .fraction) .removes) (reactorOf p x (y .fraction) .denitrified)
+    covered-removable (reactorOf p x (y .fraction) .removes) (reactorOf p x (y .fraction) .«removed_by_dose») (reactorOf p x (y .fraction) .denitrified)
+    .0
     (fraction-covered p x (y .fraction) (permitted-keeps p x y .0 t .fraction))
 
 -- The same of every sheet that examining gives: its data are accepted, its candidate is permitted, and its fraction is

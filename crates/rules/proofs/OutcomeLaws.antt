@@ -104,7 +104,7 @@ explained-outcome p r y e q = go (verdict (explanationRules p r y)) refl e (q �
     go (Verdict.Broken m) k (Explanation.Figures f) h = absurd (let z : _≡_ {A = ℕ} 0 1 = cc in omega arith)
     go (Verdict.Broken m) k (Explanation.Refused n) h =
         let same : m ≡ n = cc in
-        inr (record { refusal = n; isDue = broken-verdict (explanationRules p r y) n .1 (k ∙ ap Verdict.Broken same); numbered = refl; zeros = (refl, (refl, (refl, (refl, (refl, (refl, (refl, tt))))))) })
+        inr (record { refusal = n; isDue = broken-verdict (explanationRules p r y) n .1 (k ∙ ap Verdict.Broken same); numbered = refl; zeros = (refl, (refl, (refl, (refl, (refl, (refl, (refl, (refl, (refl, tt))))))))) })
 
 -- writing
 pub writing-outcome : (a : Answer) (page : List ℕ) (w : Written) → w ≡ writing (listing a) page → WritingOutcome a page (writtenNumber w) (writtenCount w)

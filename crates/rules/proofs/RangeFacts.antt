@@ -5,7 +5,7 @@ use native.Mathlib.Omega.{arith}
 use mathlib.Core.Bool.{Bool, _&&_}
 use lib.Dec.{T}
 use lib.Ieee.Fits.{and-i, and-l, and-r}
-use Rattle.rules.specs.PlantData.{within, plantFigures, plantInRange}
+use Rattle.rules.specs.PlantData.{within, figuresWithoutDose, plantFigures, plantInRange}
 use Rattle.rules.specs.Limits.{leastFraction, mostFraction, leastRatio, mostRatio, leastTime, mostTime}
 use Rattle.rules.specs.AgeNitrate.{largestReturnRatio, onGrid}
 use Rattle.rules.specs.Ranges.{Between, GridFraction, GridTime, PlantRanges, OnGrid}
@@ -16,7 +16,7 @@ use Rattle.rules.proofs.Tests.{within-between, AllBetween, all-between,
 
 -- the facts, from the table's figures in turn
 named : (p : Plant) → AllBetween (plantFigures p) → PlantRanges p
-unfolding plantFigures
+unfolding plantFigures figuresWithoutDose
 named p b =
     record {
       load = b .0;
@@ -32,10 +32,11 @@ named p b =
       saturation = b .1 .1 .1 .1 .1 .1 .1 .1 .1 .1 .0;
       surface = b .1 .1 .1 .1 .1 .1 .1 .1 .1 .1 .1 .0;
       depth = b .1 .1 .1 .1 .1 .1 .1 .1 .1 .1 .1 .1 .0;
+      dose = b .1 .1 .1 .1 .1 .1 .1 .1 .1 .1 .1 .1 .1 .0;
     }
 
 listed : (p : Plant) → PlantRanges p → AllBetween (plantFigures p)
-unfolding plantFigures
+unfolding plantFigures figuresWithoutDose
 listed p b = (
   b .load,
   (
@@ -48,7 +49,7 @@ listed p b = (
           b .aeration,
           (
             b .index,
-            (b .nitrate, (b .phosphorus, (b .carbonPeak, (b .nitrogenPeak, (b .saturation, (b .surface, (b .depth, tt))))))),
+            (b .nitrate, (b .phosphorus, (b .carbonPeak, (b .nitrogenPeak, (b .saturation, (b .surface, (b .depth, (b .dose, tt)))))))),
           ),
         ),
       ),

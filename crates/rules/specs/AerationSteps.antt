@@ -20,7 +20,11 @@ carbonOxygen flow bod uptake = up (flow * bod * uptake) 1_000_000
 unfoldable pub nitrificationOxygen : ℕ → ℕ → ℕ
 nitrificationOxygen flow w = up (43 * flow * w) 10_000
 
--- oxygen saved by denitrification, g/d, from Q and D (5-26)
+-- the nitrate that is left to the tank's BOD, mg/m3, from D and what the dose removes (document 02, item 2)
+unfoldable pub denitrifiedByBod : ℕ → ℕ → ℕ
+denitrifiedByBod d byDose = d - byDose
+
+-- oxygen saved by denitrification, g/d, from Q and the nitrate that the tank's BOD denitrifies (5-26)
 unfoldable pub savedOxygen : ℕ → ℕ → ℕ
 savedOxygen flow d = down (29 * flow * d) 10_000
 
@@ -41,11 +45,11 @@ recirculation Process.Simultaneous w target = 0
 recirculation Process.Intermittent w target = 0
 recirculation (Process.StepFeed steps) w target = 0
 
--- aeration and recirculation of a reactor
-unfoldable pub aerationOf : Plant → Concentrations → Reactor → Aeration
-aerationOf p x reactor =
+-- aeration and recirculation of a reactor that saves oxygen on this nitrate
+unfoldable pub aerationSaving : ℕ → Plant → Concentrations → Reactor → Aeration
+aerationSaving d p x reactor =
     let u = correctedAge (reactor .age) (p .«aeration_temperature») in
-    let net = carbonOxygen (p .flow) (x .bod) (aerationUptake u) - savedOxygen (p .flow) (reactor .denitrified) in
+    let net = carbonOxygen (p .flow) (x .bod) (aerationUptake u) - savedOxygen (p .flow) d in
     let nitrification = nitrificationOxygen (p .flow) (reactor .nitrified) in
     let hourly = hourlyOxygen net nitrification (p .«carbon_peak») (p .«nitrogen_peak») in
     record {
@@ -53,3 +57,7 @@ aerationOf p x reactor =
       oxygen = hourly;
       transfer = oxygenTransfer (p .«oxygen_saturation») hourly;
     }
+
+-- the same of a reactor with its plant's dose
+unfoldable pub aerationOf : Plant → Concentrations → Reactor → Aeration
+aerationOf p x reactor = aerationSaving (denitrifiedByBod (reactor .denitrified) (reactor .«removed_by_dose»)) p x reactor

@@ -84,10 +84,20 @@ capacity Process.Simultaneous fraction temperature corrected = uptakeCapacity fr
 capacity Process.Intermittent fraction temperature corrected = uptakeCapacity fraction corrected
 capacity (Process.StepFeed steps) fraction temperature corrected = risenCapacity (tableCapacity fraction) temperature
 
--- the nitrate that the tank can remove, mg/m3, from K × C: the second of the two columns that are read aloud
-unfoldable pub removable : ℕ → ℕ
-removable removes = down removes 1000
+-- the nitrate that the tank's BOD removes, mg/m3, from K × C
+unfoldable pub removedByBod : ℕ → ℕ
+removedByBod removes = down removes 1000
 
--- document 01's "covered", from K × C and D: K × C ≥ 1000 × D
-unfoldable pub covered : ℕ → ℕ → Bool
-covered removes d = leb (1000 * d) removes
+-- the nitrate that external carbon removes, mg/m3, from the dose as COD: one part for five (5-8; document
+-- 02, item 2)
+unfoldable pub removedByDose : ℕ → ℕ
+removedByDose dose = down dose 5
+
+-- the nitrate that the tank can remove, mg/m3, from K × C and what the dose removes: the second of the two columns that
+-- are read aloud
+unfoldable pub removable : ℕ → ℕ → ℕ
+removable removes byDose = removedByBod removes + byDose
+
+-- "covered", from K × C, what the dose removes and D: K × C + 1000 × down(dose / 5) ≥ 1000 × D (document 02, item 2)
+unfoldable pub covered : ℕ → ℕ → ℕ → Bool
+covered removes byDose d = leb (1000 * d) (removes + 1000 * byDose)

@@ -78,7 +78,17 @@ explanationNumber (Explanation.Refused n) = refusalNumber n
 unfoldable pub explanationFigures : Explanation → Explained
 explanationFigures (Explanation.Figures e) = e
 explanationFigures (Explanation.Refused n) =
-    record { denitrified = 0; removable = 0; solids = 0; «sludge_volume» = 0; surface = 0; depth = 0; verdict = Verdict.Kept }
+    record {
+      denitrified = 0;
+      «removed_by_bod» = 0;
+      «removed_by_dose» = 0;
+      removable = 0;
+      solids = 0;
+      «sludge_volume» = 0;
+      surface = 0;
+      depth = 0;
+      verdict = Verdict.Kept;
+    }
 
 -- the number of a verdict: 0 where every rule is kept
 unfoldable pub verdictNumber : Verdict → ℕ
@@ -109,6 +119,8 @@ sheetFigures s =
 unfoldable pub explainedFigures : Explained → List ℕ
 explainedFigures e =
     e .denitrified
+    ∷ e .«removed_by_bod»
+    ∷ e .«removed_by_dose»
     ∷ e .removable
     ∷ e .solids
     ∷ e .«sludge_volume»

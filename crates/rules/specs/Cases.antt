@@ -48,6 +48,7 @@ variant flow target surface depth process tank removal =
       tank = tank;
       removal = removal;
       «primary_settling» = PrimarySettling.None;
+      dose = 0;
     }
 
 unfoldable pub caseA : Plant

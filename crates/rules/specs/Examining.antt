@@ -56,7 +56,7 @@ sheetOf p x y =
 
 -- 7, of the fraction alone: the nitrate is covered
 abbrev pub fractionRules : Reactor → List Rule
-fractionRules reactor = rule Refusal.Nitrate (covered (reactor .removes) (reactor .denitrified)) ∷ []
+fractionRules reactor = rule Refusal.Nitrate (covered (reactor .removes) (reactor .«removed_by_dose») (reactor .denitrified)) ∷ []
 
 -- 8 to 10, of the settling tank alone: E ≥ 1,000 and V ≤ 600; the surface, then the depth, at most the site's
 abbrev pub tankRules : Plant → Settling → List Rule

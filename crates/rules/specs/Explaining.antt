@@ -5,7 +5,7 @@ use mathlib.Core.Bool.{cond}
 use mathlib.Core.List.{List, [], _∷_, _++_}
 use Rattle.rules.specs.Rules.{Rule, verdict}
 use Rattle.rules.specs.Accepting.{accept, dataRules}
-use Rattle.rules.specs.AgeNitrate.{onGrid, removable}
+use Rattle.rules.specs.AgeNitrate.{onGrid, removedByBod, removable}
 use Rattle.rules.specs.ReactorSteps.{reactorOf}
 use Rattle.rules.specs.SettlingSteps.{settlingOf}
 use Rattle.rules.specs.Examining.{fractionRules, tankRules, gridRule}
@@ -25,7 +25,9 @@ unfoldable pub explainedBy : Plant → Reactor → Settling → Explained
 explainedBy p reactor settling =
     record {
       denitrified = reactor .denitrified;
-      removable = removable (reactor .removes);
+      «removed_by_bod» = removedByBod (reactor .removes);
+      «removed_by_dose» = reactor .«removed_by_dose»;
+      removable = removable (reactor .removes) (reactor .«removed_by_dose»);
       solids = settling .solids;
       «sludge_volume» = settling .«sludge_volume»;
       surface = settling .surface;

@@ -1,7 +1,8 @@
 -- Document 01 as definitions over the whole numbers, in its order: the roundings; plant data and site; lab readings, with
 -- the rules 1 to 4; sludge age and nitrate; sludge and tanks; aeration and recirculation; examining, with the rules 6 to
 -- 10, and numbered answers; choosing; the listing; the worked cases. Beside them: the ranges as facts, the two nitrate
--- columns, what explains a candidate, the census of the grid, and the day log with its highest two-week load.
+-- columns, what explains a candidate, the census of the grid, the day log with its highest two-week load, and document 01's
+-- steps without the dose that document 02 added.
 pub mod Rounding
 pub mod Limits
 pub mod Sums
@@ -20,6 +21,7 @@ pub mod Choosing
 pub mod Explaining
 pub mod Outcomes
 pub mod TwoColumns
+pub mod WithoutDose
 pub mod Census
 pub mod DayLog
 pub mod DayLogOutcome

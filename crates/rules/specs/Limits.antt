@@ -1,4 +1,4 @@
--- Numbers that stand in several places, each named once: the ends of the grid and of the plant's temperatures, and round
+-- Numbers that stand in several places, each named once: the ends of the grid, of the plant's temperatures and of the dose, and round
 -- limits of the figures for accepted data on the grid, which the arithmetic of the inner functions needs.
 -- Assumes nothing.
 use Prim.Native.Nat.{ℕ}
@@ -45,6 +45,13 @@ mostCapacity = 193
 
 abbrev pub mostRemoves : ℕ
 mostRemoves = 386_000_000
+
+-- the dose of external carbon, mg/m3 as COD, and the nitrate that it removes, mg/m3
+abbrev pub mostDose : ℕ
+mostDose = 500_000
+
+abbrev pub mostRemovedByDose : ℕ
+mostRemovedByDose = 100_000
 
 -- S, g/d, and M, kg
 abbrev pub mostSludge : ℕ

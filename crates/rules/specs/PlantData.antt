@@ -1,9 +1,9 @@
--- Document 01, "Plant data and site": the range of each figure. Assumes nothing.
+-- Document 01, "Plant data and site", and the dose of document 02, item 2: the range of each figure. Assumes nothing.
 use Prim.Native.Nat.{ℕ}
 use mathlib.Core.Bool.{Bool, true, _&&_}
-use mathlib.Core.List.{List, [], _∷_}
+use mathlib.Core.List.{List, [], _∷_, _++_}
 use lib.Dec.{leb}
-use Rattle.rules.specs.Limits.{leastTemperature, mostTemperature}
+use Rattle.rules.specs.Limits.{leastTemperature, mostTemperature, mostDose}
 use Rattle.rules.specs.declared.Plant.{Plant}
 
 -- n lies in the range least..most, both ends included
@@ -24,9 +24,9 @@ abbrev pub allWithin : List Figure → Bool
 allWithin [] = true
 allWithin (n ∷ rest) = within (n .least) (n .most) (n .value) && allWithin rest
 
--- the plant and site figures; the kinds are allowed in all combinations
-unfoldable pub plantFigures : Plant → List Figure
-plantFigures p =
+-- document 01's plant and site figures; the kinds are allowed in all combinations
+unfoldable pub figuresWithoutDose : Plant → List Figure
+figuresWithoutDose p =
     figure 1 100_000 (p .load)
     ∷ figure 1 200_000 (p .flow)
     ∷ figure 1 50_000 (p .«wet_weather_flow»)
@@ -41,6 +41,10 @@ plantFigures p =
     ∷ figure 1 100_000 (p .«site_surface»)
     ∷ figure 3_000 10_000 (p .«site_depth»)
     ∷ []
+
+-- the plant and site figures: document 01's, then the dose
+unfoldable pub plantFigures : Plant → List Figure
+plantFigures p = figuresWithoutDose p ++ (figure 0 mostDose (p .dose) ∷ [])
 
 -- every plant and site figure is in its range
 unfoldable pub plantInRange : Plant → Bool

@@ -2,7 +2,7 @@
 -- and of the grid are the tests of PlantData and AgeNitrate, no more and no less (proofs/RangeFacts.antt); accepted
 -- concentrations are in theirs (proofs/AcceptedData.antt). Assumes nothing.
 use Prim.Native.Nat.{ℕ, _≤_}
-use Rattle.rules.specs.Limits.{leastTemperature, mostTemperature, leastFraction, mostFraction, leastRatio, mostRatio, leastTime, mostTime, mostAge, mostNitrogen, mostRemoves, mostSludge, mostMass, leastSolids, mostSolids, mostSludgeVolume, mostSurface, leastDepth, mostDepth, mostSettlingVolume}
+use Rattle.rules.specs.Limits.{leastTemperature, mostTemperature, leastFraction, mostFraction, leastRatio, mostRatio, leastTime, mostTime, mostAge, mostNitrogen, mostRemoves, mostDose, mostRemovedByDose, mostSludge, mostMass, leastSolids, mostSolids, mostSludgeVolume, mostSurface, leastDepth, mostDepth, mostSettlingVolume}
 use Rattle.rules.specs.declared.Plant.{Plant}
 use Rattle.rules.specs.declared.Concentrations.{Concentrations}
 use Rattle.rules.specs.declared.Candidate.{Candidate}
@@ -42,6 +42,7 @@ pub record PlantRanges (p : Plant) : Type 0 where
   pub saturation : Between 6_000 15_000 (p .«oxygen_saturation»)
   pub surface : Between 1 100_000 (p .«site_surface»)
   pub depth : Between 3_000 10_000 (p .«site_depth»)
+  pub dose : Between 0 mostDose (p .dose)
 
 -- the concentrations are accepted results
 pub record ConcentrationRanges (x : Concentrations) : Type 0 where
@@ -64,6 +65,7 @@ pub record ReactorBounds (r : Reactor) : Type 0 where
   pub nitrified : r .nitrified ≤ mostNitrogen
   pub denitrified : r .denitrified ≤ mostNitrogen
   pub removes : r .removes ≤ mostRemoves
+  pub byDose : r .«removed_by_dose» ≤ mostRemovedByDose
   pub sludge : r .sludge ≤ mostSludge
   pub mass : r .mass ≤ mostMass
 

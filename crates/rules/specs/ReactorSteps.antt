@@ -1,7 +1,7 @@
 -- Document 01, "Sludge and tanks", the reactor: sludge, mass and volume. What depends on the fraction alone. Assumes nothing.
 use Prim.Native.Nat.{ℕ, _+_, _-_, _*_}
 use Rattle.rules.specs.Rounding.{down, up}
-use Rattle.rules.specs.AgeNitrate.{safetyFactor, aerobicAge, sludgeAge, correctedAge, nitrified, denitrified, capacity}
+use Rattle.rules.specs.AgeNitrate.{safetyFactor, aerobicAge, sludgeAge, correctedAge, nitrified, denitrified, capacity, removedByDose}
 use Rattle.rules.specs.declared.Plant.{Plant}
 use Rattle.rules.specs.declared.Concentrations.{Concentrations}
 use Rattle.rules.specs.declared.Process.{Process}
@@ -26,25 +26,30 @@ sludgePerPhosphorus Precipitant.Aluminium = 53
 unfoldable pub phosphorusSludge : ℕ → ℕ → ℕ → ℕ → ℕ → ℕ
 phosphorusSludge flow k phosphorus target bod = up (flow * k * (phosphorus - target - down bod 100)) 10_000
 
+-- S, sludge, g/d, from U(T): carbon and phosphorus sludge (5-10); the dose adds none (document 02, item 2)
+unfoldable pub sludgeProduction : Plant → Concentrations → ℕ → ℕ
+sludgeProduction p x corrected =
+    carbonSludge (p .flow) (x .bod) (x .solids) corrected
+    + phosphorusSludge (p .flow) (sludgePerPhosphorus (p .precipitant)) (x .phosphorus) (p .«phosphorus_target») (x .bod)
+
 -- M, mass of sludge, kg, from t and S (5-15)
 unfoldable pub sludgeMass : ℕ → ℕ → ℕ
 sludgeMass age sludge = up (age * sludge) 1_000_000
 
--- what depends on the fraction alone: f, t, W, D, K × C, S and M
+-- what depends on the fraction alone: f, t, W, D, K × C, what the dose removes, S and M
 unfoldable pub reactorOf : Plant → Concentrations → ℕ → Reactor
 reactorOf p x fraction =
     let t = sludgeAge (aerobicAge (safetyFactor (p .load)) (p .«design_temperature»)) fraction in
     let u = correctedAge t (p .«design_temperature») in
     let w = nitrified (x .nitrogen) (x .bod) in
-    let s =
-    carbonSludge (p .flow) (x .bod) (x .solids) u
-    + phosphorusSludge (p .flow) (sludgePerPhosphorus (p .precipitant)) (x .phosphorus) (p .«phosphorus_target») (x .bod) in
+    let s = sludgeProduction p x u in
     record {
       fraction = fraction;
       age = t;
       nitrified = w;
       denitrified = denitrified w (p .«nitrate_target»);
       removes = capacity (p .process) fraction (p .«design_temperature») u * x .bod;
+      «removed_by_dose» = removedByDose (p .dose);
       sludge = s;
       mass = sludgeMass t s;
     }

@@ -11,9 +11,10 @@ use Rattle.rules.specs.declared.Readings.{Readings}
 use Rattle.rules.specs.declared.Concentrations.{Concentrations}
 use Rattle.rules.specs.declared.Answer.{Answer}
 
--- at a fraction the first column is at most the second: D ≤ down(K × C / 1000)
+-- at a fraction the first column is at most the second: D ≤ down(K × C / 1000) + down(dose / 5)
 abbrev pub Removes : Plant → Concentrations → ℕ → Type 0
-Removes p x fraction = reactorOf p x fraction .denitrified ≤ removable (reactorOf p x fraction .removes)
+Removes p x fraction =
+    reactorOf p x fraction .denitrified ≤ removable (reactorOf p x fraction .removes) (reactorOf p x fraction .«removed_by_dose»)
 
 -- a sheet is given for accepted data, and keeps the two columns at its own fraction
 abbrev pub TwoColumns : Plant → Readings → Answer → Type 0

@@ -91,6 +91,8 @@ pub struct Plant {
     pub tank: TankFlow,
     pub removal: Removal,
     pub primary_settling: PrimarySettling,
+    // external carbon, mg/m3 as COD
+    pub dose: u32,
 }
 
 // What a lab reading is of.
@@ -145,8 +147,10 @@ pub struct Reactor {
     pub nitrified: u64,
     // D, nitrate to denitrify, mg/m3
     pub denitrified: u64,
-    // K × C: what the cover compares, thousandths of the nitrate that the tank can remove
+    // K × C, thousandths of the nitrate that the tank removes with the tank's BOD, mg/m3
     pub removes: u64,
+    // nitrate that the dose removes, mg/m3
+    pub removed_by_dose: u64,
     // S, g/d
     pub sludge: u64,
     // M, kg
@@ -241,7 +245,10 @@ pub enum Written {
 pub struct Explained {
     // D, nitrate to be removed, mg/m3
     pub denitrified: u64,
-    // nitrate that the tank can remove, mg/m3
+    // nitrate that the tank removes with the tank's BOD, and with the dose, mg/m3
+    pub removed_by_bod: u64,
+    pub removed_by_dose: u64,
+    // nitrate that the tank can remove, mg/m3: their sum
     pub removable: u64,
     // E, g/m3
     pub solids: u64,

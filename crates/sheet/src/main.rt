@@ -37,6 +37,7 @@ fn plant() -> Plant
         tank: TankFlow::Horizontal,
         removal: Removal::Scraper,
         primary_settling: PrimarySettling::None,
+        dose: 0,
     }
 }
 

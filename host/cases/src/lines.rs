@@ -29,6 +29,36 @@ pub fn on_cover(request: Request, over: u64) -> Option<Request> {
     Some(request.with_measured(NITROGEN, nitrogen))
 }
 
+/// The least dose that removes so much nitrate, less so much.
+fn with_dose_for(request: Request, nitrate: u64, less: u32) -> Option<Request> {
+    let dose = (5 * nitrate as u32).checked_sub(less)?;
+    (dose <= MOST_DOSE).then(|| request.with(DOSE, dose))
+}
+
+/// The dose set to the least that covers the candidate, less so much.
+pub fn on_dose(request: Request, less: u32) -> Option<Request> {
+    let stages = figures::of_request(&request)?;
+    let missing = stages.nitrate.to_denitrify.checked_sub(stages.by_bod)?;
+    with_dose_for(request, missing, less)
+}
+
+/// The dose set to the least that leaves no nitrate to the BOD, less so much.
+pub fn on_whole_dose(request: Request, less: u32) -> Option<Request> {
+    let stages = figures::of_request(&request)?;
+    with_dose_for(request, stages.nitrate.to_denitrify, less)
+}
+
+/// A random dose: none, about what leaves no nitrate to the BOD, or any.
+pub fn with_dose(random: &mut Random, request: Request) -> Request {
+    let about = |whole: Request, more: u32| (whole.get(DOSE) + more).saturating_sub(5);
+    let dose = match random.within(0, 7) {
+        0..=3 => 0,
+        4 | 5 => on_whole_dose(request, 0).map_or(0, |whole| about(whole, random.within(0, 10))),
+        _ => random.spread(1, MOST_DOSE),
+    };
+    request.with(DOSE, dose)
+}
+
 /// The site's surface set to the candidate's, less so much.
 pub fn on_surface(request: Request, less: u32) -> Option<Request> {
     let settling = figures::of_request(&request)?.settling;
@@ -133,12 +163,15 @@ pub fn random_on_line(random: &mut Random, tanks: &OnLines) -> Request {
         let (tank, flow) = tanks.any(random);
         plant = tank.put_in(plant, flow);
     }
+    let plant = with_dose(random, plant);
     let past = random.within(0, 1);
-    let moved = match random.within(0, 5) {
+    let moved = match random.within(0, 7) {
         0 | 1 => on_cover(plant, u64::from(past)),
-        2 => on_surface(plant, past),
-        3 => on_depth(plant, past),
-        4 => on_cod_ratio(plant, u64::from(past)),
+        2 => on_dose(plant, past),
+        3 => on_whole_dose(plant, past),
+        4 => on_surface(plant, past),
+        5 => on_depth(plant, past),
+        6 => on_cod_ratio(plant, u64::from(past)),
         _ => Some(on_reading_edge(random, plant)),
     };
     moved.unwrap_or(plant)

@@ -6,7 +6,9 @@ use reference::{listing, Answer};
 
 pub const SHORT_PAGE: u32 = reference::refusal::SHORT_PAGE as u32;
 /// Bytes that explaining writes.
-pub const EXPLAIN_PAGE: usize = 56;
+pub const EXPLAIN_PAGE: usize = 8 * FIGURES;
+/// Figures that explaining gives.
+const FIGURES: usize = 9;
 /// Bytes that a census writes.
 pub const CENSUS_PAGE: usize = 256;
 /// Bytes that a two-week load writes.
@@ -51,9 +53,11 @@ pub fn choose(request: &[u8], page_length: usize) -> Outcome {
 }
 
 /// The figures that the rules 7 to 10 ask of, and the number of the first of them that is broken.
-fn judged_by(stages: &Stages, verdict: u8) -> [u64; 7] {
+fn judged_by(stages: &Stages, verdict: u8) -> [u64; FIGURES] {
     [
         stages.nitrate.to_denitrify,
+        stages.by_bod,
+        stages.nitrate.by_dose,
         stages.removable,
         stages.settling.solids,
         stages.settling.diluted_volume,
@@ -63,7 +67,7 @@ fn judged_by(stages: &Stages, verdict: u8) -> [u64; 7] {
     ]
 }
 
-/// Seven 64-bit numbers, or a refusal and zeros.
+/// Nine 64-bit numbers, or a refusal and zeros.
 pub fn explain(request: &[u8], page_length: usize) -> Outcome {
     let data = match decode(request, EXAMINE_LENGTH) {
         Err(fault) => return nothing(fault),
@@ -73,7 +77,7 @@ pub fn explain(request: &[u8], page_length: usize) -> Outcome {
         return nothing(SHORT_PAGE);
     }
     let (number, figures) = match reference::explain(&data.plant, &data.readings, data.candidate) {
-        Err(number) => (u32::from(number), [0; 7]),
+        Err(number) => (u32::from(number), [0; FIGURES]),
         Ok(stages) => {
             let answer = reference::examine(&data.plant, &data.readings, data.candidate);
             (0, judged_by(&stages, answer.number()))

@@ -27,9 +27,10 @@ pub const COD: usize = 21;
 pub const SOLIDS: usize = 23;
 pub const NITROGEN: usize = 25;
 pub const PHOSPHORUS: usize = 27;
+pub const DOSE: usize = 29;
 
-/// Words of the data: version, plant and readings.
-pub const DATA_WORDS: usize = 29;
+/// Words of the data: version, plant, readings and dose.
+pub const DATA_WORDS: usize = 30;
 /// Words of a candidate, which come after the data.
 pub const CANDIDATE_WORDS: usize = 3;
 pub const FRACTION: usize = DATA_WORDS;
@@ -46,8 +47,11 @@ pub const MEASURED: u32 = 0;
 pub const BELOW: u32 = 1;
 pub const HEADS: u32 = 2;
 
+/// Largest dose of external carbon, mg/m3 as COD.
+pub const MOST_DOSE: u32 = 500_000;
+
 /// Range of each plant and site figure.
-pub const PLANT_RANGES: [(usize, u32, u32); 13] = [
+pub const PLANT_RANGES: [(usize, u32, u32); 14] = [
     (LOAD, 1, 100_000),
     (FLOW, 1, 200_000),
     (WET_WEATHER_FLOW, 1, 50_000),
@@ -61,6 +65,7 @@ pub const PLANT_RANGES: [(usize, u32, u32); 13] = [
     (OXYGEN_SATURATION, 6_000, 15_000),
     (SITE_SURFACE, 1, 100_000),
     (SITE_DEPTH, 3_000, 10_000),
+    (DOSE, 0, MOST_DOSE),
 ];
 
 /// Words that hold a kind, and the last kind of each.
@@ -83,7 +88,11 @@ pub const EXAMINE_LENGTH: usize = 4 * WORDS;
 pub const CHOOSE_LENGTH: usize = 4 * DATA_WORDS;
 
 /// The newest version, the only one that is answered.
-pub const NEWEST_VERSION: u32 = 1;
+pub const NEWEST_VERSION: u32 = 2;
+/// The version before it.
+pub const EARLIER_VERSION: u32 = NEWEST_VERSION - 1;
+/// A version that does not exist yet.
+pub const LATER_VERSION: u32 = NEWEST_VERSION + 1;
 
 /// Numbers of malformed requests.
 pub const WRONG_LENGTH: u32 = 101;
@@ -203,6 +212,7 @@ fn plant(words: &[u32]) -> Option<Plant> {
             words[REMOVAL],
         )?,
         primary_settling: choice(&[NoSettling, Short, Long], words[PRIMARY_SETTLING])?,
+        dose: words[DOSE],
     })
 }
 
@@ -226,15 +236,16 @@ fn readings(words: &[u32]) -> Option<[Reading; 5]> {
 /// A request of the given length, or the number of its fault. The candidate
 /// of a request to choose is zeros.
 pub fn decode(bytes: &[u8], length: usize) -> Result<Decoded, u32> {
+    let version = bytes.first_chunk().ok_or(WRONG_LENGTH)?;
+    if u32::from_le_bytes(*version) != NEWEST_VERSION {
+        return Err(WRONG_VERSION);
+    }
     if bytes.len() != length {
         return Err(WRONG_LENGTH);
     }
     let mut words = [0; WORDS];
     for (word, four) in words.iter_mut().zip(bytes.chunks_exact(4)) {
         *word = u32::from_le_bytes([four[0], four[1], four[2], four[3]]);
-    }
-    if words[VERSION] != NEWEST_VERSION {
-        return Err(WRONG_VERSION);
     }
     Ok(Decoded {
         plant: plant(&words).ok_or(UNKNOWN_KIND)?,

@@ -10,15 +10,15 @@ type Wanted = (&'static str, usize, &'static [u32]);
 
 const PASSED: &[u32] = &[0, 7, 8, 9, 10];
 
-const WANTED: [Wanted; 73] = [
+const WANTED: [Wanted; 83] = [
     ("worked case", 13, &[0, 4, 7, 8, 10]),
-    ("plant edge", 24, &[0]),
+    ("plant edge", 26, &[0]),
     ("site depth edge", 2, &[0, 10]),
-    ("plant past edge", 28, &[1]),
-    ("plant past edge, choose", 7, &[1]),
+    ("plant past edge", 30, &[1]),
+    ("plant past edge, choose", 8, &[1]),
     ("grid edge", 7, &[0, 8]),
     ("off grid", 13, &[6]),
-    ("wrong version", 6, &[102]),
+    ("wrong version", 8, &[102]),
     ("unknown kind", 15, &[103]),
     ("reading edge", 26, PASSED),
     ("reading past edge", 20, &[3]),
@@ -82,6 +82,16 @@ const WANTED: [Wanted; 73] = [
     ("no design: solids and site", 3, &[5]),
     ("site just holds the choice", 4, &[0]),
     ("site one below the choice", 8, &[0, 5]),
+    ("dose past its range", 6, &[1]),
+    ("dose just covers", 5, &[0]),
+    ("dose just covers, choose", 5, &[0]),
+    ("dose just misses", 10, &[7]),
+    ("dose of 5", 3, &[0]),
+    ("dose of 4", 3, &[7]),
+    ("dose and saved oxygen", 10, &[0]),
+    ("design by a dose alone", 5, &[0]),
+    ("no design: dose", 5, &[5]),
+    ("dose lowers the fraction", 3, &[0]),
     ("combination", 180, PASSED),
     ("combination, choose", 24, &[0, 5]),
 ];

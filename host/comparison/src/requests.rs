@@ -2,7 +2,8 @@
 
 use crate::compare::Operation;
 use crate::logs;
-use cases::lines::{on_cover, random_on_line};
+use cases::lines::{on_cover, on_dose, random_on_line, with_dose};
+use cases::model::EXPLAIN_PAGE;
 use cases::odd;
 use cases::plants;
 use cases::random::Random;
@@ -19,12 +20,13 @@ fn small(random: &mut Random) -> Request {
 
 /// A request that is mostly accepted.
 pub fn sound(random: &mut Random, tanks: &OnLines) -> Request {
-    match random.within(0, 9) {
+    let plant = match random.within(0, 9) {
         0 | 1 => plants::plausible(random),
-        2 => plants::anything(random),
+        2 => return plants::anything(random),
         3 => small(random),
-        _ => random_on_line(random, tanks),
-    }
+        _ => return random_on_line(random, tanks),
+    };
+    with_dose(random, plant)
 }
 
 /// A request to choose that mostly gets a design: equal totals are common in
@@ -36,8 +38,13 @@ pub fn with_design(random: &mut Random) -> Request {
         1 => plants::plausible(random).with_measured(SOLIDS, 0),
         _ => plants::plausible(random),
     };
+    let plant = with_dose(random, plant);
     let roomy = plant.with(SITE_SURFACE, 100_000).with(SITE_DEPTH, 10_000);
-    let covered = on_cover(roomy, 0).unwrap_or(roomy);
+    let line = match random.one_in(4) {
+        true => on_dose(roomy, random.within(0, 1)),
+        false => on_cover(roomy, 0),
+    };
+    let covered = line.unwrap_or(roomy);
     match random.within(0, 3) {
         0 => plant,
         1 => covered,
@@ -88,12 +95,15 @@ fn edged_candidate(random: &mut Random, request: Request) -> Request {
 fn damaged_words(random: &mut Random, request: Request) -> Request {
     let bits = random.bits() as u32;
     match random.within(0, 2) {
-        0 => request.with(VERSION, random.pick(&[0, 2, 256, 0x0100_0000, bits])),
+        0 => {
+            let versions = [0, EARLIER_VERSION, LATER_VERSION, 256, 0x0100_0000, bits];
+            request.with(VERSION, random.pick(&versions))
+        }
         1 => {
             let (place, last) = random.pick(&KIND_WORDS);
             request.with(place, random.pick(&[last + 1, 255, 256, u32::MAX, bits]))
         }
-        _ => request.with(random.within(0, 31) as usize, bits),
+        _ => request.with(random.within(0, WORDS as u32 - 1) as usize, bits),
     }
 }
 
@@ -102,7 +112,7 @@ fn damaged_length(random: &mut Random, mut bytes: Vec<u8>) -> Vec<u8> {
     let length = match random.within(0, 3) {
         0 => bytes.len() - 1,
         1 => bytes.len() + 1,
-        2 => random.pick(&[0, 1, 3, 4, CHOOSE_LENGTH, EXAMINE_LENGTH]),
+        2 => random.pick(&[0, 1, 3, 4, CHOOSE_LENGTH, EXAMINE_LENGTH, bytes.len() - 4]),
         _ => random.within(0, 300) as usize,
     };
     bytes.resize(length, random.bits() as u8);
@@ -135,7 +145,7 @@ pub fn any(random: &mut Random, tanks: &OnLines, operation: Operation) -> Vec<u8
 pub fn page_length(random: &mut Random) -> usize {
     match random.within(0, 15) {
         0 => random.within(0, 20) as usize,
-        1 => random.within(40, 56) as usize,
+        1 => EXPLAIN_PAGE - random.within(0, 16) as usize,
         2 => random.within(150, 260) as usize,
         _ => 512,
     }

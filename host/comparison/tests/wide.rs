@@ -208,7 +208,7 @@ fn differences_are_reported() {
     let last = outcome.written.len() - 2;
     outcome.written[last] ^= 1;
     let text = agree(Operation::Examine, &bytes, 512, &outcome).unwrap_err();
-    for part in ["01000000b0040000", "transfer 127662;", "transfer 127663;"] {
+    for part in ["02000000b0040000", "transfer 127662;", "transfer 127663;"] {
         assert!(text.contains(part), "{text}");
     }
     let refused = expected(Operation::Examine, &bytes, 0);

@@ -1,14 +1,20 @@
-//! The page of `explain`: seven 64-bit numbers, little-endian.
+//! The page of `explain`: nine 64-bit numbers, little-endian.
 
+/// Figures of a page, the verdict among them.
+const FIGURES: usize = 9;
 /// Bytes that `explain` writes.
-pub const FIGURES_LENGTH: usize = 56;
+pub const FIGURES_LENGTH: usize = 8 * FIGURES;
 
 /// The figures that a candidate is judged by.
 #[derive(Clone, Copy, Debug, PartialEq, Eq)]
 pub struct Figures {
     /// Nitrate to be removed, mg/m3
     pub nitrate_to_remove: u64,
-    /// Nitrate that the tank can remove, mg/m3
+    /// Nitrate that the tank's BOD removes, mg/m3
+    pub removed_by_bod: u64,
+    /// Nitrate that the dose removes, mg/m3
+    pub removed_by_dose: u64,
+    /// Nitrate that the tank can remove, the sum of the two, mg/m3
     pub nitrate_removable: u64,
     /// Solids, g/m3
     pub solids: u64,
@@ -32,12 +38,14 @@ impl Figures {
         };
         Figures {
             nitrate_to_remove: figure(0),
-            nitrate_removable: figure(1),
-            solids: figure(2),
-            sludge_volume: figure(3),
-            surface: figure(4),
-            depth: figure(5),
-            verdict: figure(6),
+            removed_by_bod: figure(1),
+            removed_by_dose: figure(2),
+            nitrate_removable: figure(3),
+            solids: figure(4),
+            sludge_volume: figure(5),
+            surface: figure(6),
+            depth: figure(7),
+            verdict: figure(8),
         }
     }
 }

@@ -1,13 +1,15 @@
 //! A request and its bytes: 32-bit numbers, little-endian, without padding.
 
 /// Version of the layout.
-pub const VERSION: u32 = 1;
+pub const VERSION: u32 = 2;
 /// Words of the version, the plant with its site, and its kinds.
 const PLANT_WORDS: usize = 19;
 /// Words of the readings, two each.
 const READING_WORDS: usize = 10;
+/// The word of the dose, which comes after the readings.
+const DOSE_WORDS: usize = 1;
 /// Words of the data, which every request starts with.
-const DATA_WORDS: usize = PLANT_WORDS + READING_WORDS;
+const DATA_WORDS: usize = PLANT_WORDS + READING_WORDS + DOSE_WORDS;
 /// Words of a candidate, which come after the data.
 const CANDIDATE_WORDS: usize = 3;
 /// Bytes of a request to choose.
@@ -121,6 +123,8 @@ pub struct Request {
     pub tank: TankFlow,
     pub removal: Removal,
     pub primary_settling: PrimarySettling,
+    /// External carbon, mg/m3 as COD
+    pub dose: u32,
     pub bod: Reading,
     pub cod: Reading,
     pub solids: Reading,
@@ -143,9 +147,11 @@ impl Request {
     /// The bytes of a request to choose or for a census.
     pub fn to_choose(&self) -> [u8; CHOOSE_LENGTH] {
         let mut bytes = [0; CHOOSE_LENGTH];
-        let (plant, readings) = bytes.split_at_mut(4 * PLANT_WORDS);
+        let (plant, rest) = bytes.split_at_mut(4 * PLANT_WORDS);
+        let (readings, dose) = rest.split_at_mut(4 * READING_WORDS);
         put(plant, &self.plant_words());
         put(readings, &self.reading_words());
+        put(dose, &[self.dose]);
         bytes
     }
 

@@ -6,7 +6,7 @@ use common::{case_a, CASE_A_CANDIDATE, CASE_A_LISTING};
 use library::number::*;
 use library::sheet::{candidates, GRID, LINES};
 use library::{census, choose, day_log, examine, explain, load, LOAD_PAGE};
-use library::{Candidate, Census, Day, Figures, Load, Request, TankFlow};
+use library::{Candidate, Census, Day, Figures, Load, Request, TankFlow, VERSION};
 use library::{CENSUS_LENGTH, CHOOSE_LENGTH, COUNTED, EXAMINE_LENGTH, FIGURES_LENGTH, PAGE_LENGTH};
 
 const UNTOUCHED: u8 = 0xaa;
@@ -38,6 +38,8 @@ fn explains_case_a() {
     assert_eq!((number, written), (SHEET, FIGURES_LENGTH as u64));
     let figures = Figures {
         nitrate_to_remove: 26_000,
+        removed_by_bod: 26_000,
+        removed_by_dose: 0,
         nitrate_removable: 26_000,
         solids: 3_777,
         sludge_volume: 378,
@@ -46,6 +48,70 @@ fn explains_case_a() {
         verdict: 0,
     };
     assert_eq!(Figures::from_page(&page), figures);
+}
+
+/// Five parts of the dose remove one of nitrate, and a part of five nothing.
+#[test]
+fn a_dose_covers_what_the_bod_leaves() {
+    let candidate = Candidate {
+        fraction: 299,
+        ..CASE_A_CANDIDATE
+    };
+    for (dose, removed_by_dose, verdict) in [
+        (0, 0, NITRATE),
+        (4, 0, NITRATE),
+        (999, 199, NITRATE),
+        (1_000, 200, SHEET),
+        (500_000, 100_000, SHEET),
+    ] {
+        let request = Request { dose, ..case_a() };
+        let bytes = request.to_examine(candidate);
+        let mut page = [UNTOUCHED; FIGURES_LENGTH];
+        assert_eq!(explain(&bytes, &mut page).0, SHEET);
+        let figures = Figures::from_page(&page);
+        assert_eq!(figures.removed_by_bod, 25_800);
+        assert_eq!(figures.removed_by_dose, removed_by_dose);
+        assert_eq!(figures.nitrate_removable, 25_800 + removed_by_dose);
+        assert_eq!(figures.verdict, u64::from(verdict));
+        assert_eq!(examine(&bytes, &mut [0; PAGE_LENGTH]).0, verdict);
+    }
+}
+
+#[test]
+fn a_dose_out_of_range_is_refused() {
+    for (dose, number) in [
+        (500_000, SHEET),
+        (500_001, PLANT_DATA),
+        (u32::MAX, PLANT_DATA),
+    ] {
+        let request = Request { dose, ..case_a() };
+        let mut page = [UNTOUCHED; PAGE_LENGTH];
+        assert_eq!(choose(&request.to_choose(), &mut page).0, number);
+    }
+}
+
+/// Each figure of a page has its place.
+#[test]
+fn each_figure_has_its_place() {
+    let mut page = [0; FIGURES_LENGTH];
+    for (place, figure) in page.chunks_exact_mut(8).enumerate() {
+        figure.copy_from_slice(&(1_000_000_007 * place as u64).to_le_bytes());
+    }
+    let figures = Figures::from_page(&page);
+    let in_order = [
+        figures.nitrate_to_remove,
+        figures.removed_by_bod,
+        figures.removed_by_dose,
+        figures.nitrate_removable,
+        figures.solids,
+        figures.sludge_volume,
+        figures.surface,
+        figures.depth,
+        figures.verdict,
+    ];
+    assert!((0..)
+        .zip(in_order)
+        .all(|(k, figure)| figure == 1_000_000_007 * k));
 }
 
 #[test]
@@ -189,7 +255,7 @@ fn a_load_needs_its_page() {
 #[test]
 fn a_short_page_is_left_alone() {
     let request = case_a().to_examine(CASE_A_CANDIDATE);
-    let mut page = [UNTOUCHED; 55];
+    let mut page = [UNTOUCHED; FIGURES_LENGTH - 1];
     assert_eq!(examine(&request, &mut page), (SHORT_PAGE, 0));
     assert_eq!(explain(&request, &mut page), (SHORT_PAGE, 0));
     assert_eq!(
@@ -197,7 +263,7 @@ fn a_short_page_is_left_alone() {
         (SHORT_PAGE, 0)
     );
     assert_eq!(examine(&request, &mut []), (SHORT_PAGE, 0));
-    assert_eq!(page, [UNTOUCHED; 55]);
+    assert_eq!(page, [UNTOUCHED; FIGURES_LENGTH - 1]);
 }
 
 #[test]
@@ -212,9 +278,20 @@ fn malformed_requests_have_their_codes() {
     assert_eq!(choose(&good, &mut page), (BAD_LENGTH, 0));
     assert_eq!(explain(&good[..CHOOSE_LENGTH], &mut page), (BAD_LENGTH, 0));
     assert_eq!(census(&good, &mut page), (BAD_LENGTH, 0));
-    let mut other_version = good;
-    other_version[0] = 2;
-    assert_eq!(examine(&other_version, &mut page), (BAD_VERSION, 0));
+    for version in [VERSION - 1, VERSION + 1] {
+        let mut other = good;
+        other[..4].copy_from_slice(&version.to_le_bytes());
+        assert_eq!(examine(&other, &mut page), (BAD_VERSION, 0));
+        assert_eq!(explain(&other, &mut page), (BAD_VERSION, 0));
+        let data = &other[..CHOOSE_LENGTH];
+        assert_eq!(choose(data, &mut page), (BAD_VERSION, 0));
+        assert_eq!(census(data, &mut page), (BAD_VERSION, 0));
+        // a version of another length, as version 1 was
+        let shorter = &other[..CHOOSE_LENGTH - 4];
+        assert_eq!(choose(shorter, &mut page), (BAD_VERSION, 0));
+        assert_eq!(examine(&other[..4], &mut page), (BAD_VERSION, 0));
+        assert_eq!(examine(&other[..3], &mut page), (BAD_LENGTH, 0));
+    }
     let mut unknown_process = good;
     unknown_process[56] = 5;
     assert_eq!(examine(&unknown_process, &mut page), (BAD_KIND, 0));

@@ -24,20 +24,21 @@ fn lengths_are_those_of_the_header_for_c() {
         let line = format!("#define PEWGULL_{call}_LENGTH {length}\n");
         assert!(header.contains(&line), "{line}");
     }
-    assert_eq!(library::FIGURES_LENGTH, 56);
+    assert_eq!(library::FIGURES_LENGTH, 72);
     assert_eq!(library::CENSUS_LENGTH, 256);
 }
 
 #[test]
 fn bytes_of_case_a() {
     let bytes = case_a().to_examine(CASE_A_CANDIDATE);
-    assert_eq!(bytes[0..4], [1, 0, 0, 0]);
+    assert_eq!(bytes[0..4], [2, 0, 0, 0]);
     assert_eq!(bytes[4..8], [0xb0, 0x04, 0, 0], "load 1,200");
     assert_eq!(bytes[8..12], [0x88, 0x13, 0, 0], "flow 5,000");
     assert_eq!(bytes[52..56], [0x88, 0x13, 0, 0], "site depth 5,000");
     assert_eq!(bytes[56..76], [0; 20], "every kind is its first");
     assert_eq!(bytes[76..84], [0, 0, 0, 0, 0, 0, 0x48, 0x43], "BOD 200.0");
     assert_eq!(word(&bytes, 28), 0x4100_0000, "phosphorus 8.0");
+    assert_eq!(word(&bytes, 29), 0, "no dose");
     assert_eq!(
         bytes[CHOOSE_LENGTH..],
         [0x2c, 1, 0, 0, 75, 0, 0, 0, 20, 0, 0, 0]
@@ -75,6 +76,7 @@ fn each_field_has_its_word() {
         solids: Reading::Heads(24),
         nitrogen: Reading::Heads(26),
         phosphorus: Reading::Heads(28),
+        dose: 29,
         ..Request::default()
     };
     let own = CHOOSE_LENGTH / 4;
@@ -83,7 +85,7 @@ fn each_field_has_its_word() {
         return_ratio: own as u32 + 1,
         thickening: own as u32 + 2,
     });
-    for place in (1..=13).chain([20, 22, 24, 26, 28, own, own + 1, own + 2]) {
+    for place in (1..=13).chain([20, 22, 24, 26, 28, 29, own, own + 1, own + 2]) {
         assert_eq!(word(&bytes, place), place as u32, "word {place}");
     }
 }

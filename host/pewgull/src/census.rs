@@ -1,8 +1,10 @@
 //! The census of the grid: its lines, and what to look at first where no
 //! candidate is permitted.
 
+use crate::explanation::least_dose;
 use library::number::{self, DEPTH, NITRATE, SHEET, SOLIDS, SURFACE};
-use library::{Census, Request, CENSUS_LENGTH, COUNTED};
+use library::sheet::GRID;
+use library::{Candidate, Census, Request, TankFlow, CENSUS_LENGTH, COUNTED};
 
 /// The census of a plant, or the number of its refusal.
 pub fn counts(request: &Request) -> Result<Census, u32> {
@@ -45,29 +47,52 @@ fn first(census: &Census) -> u32 {
         .unwrap_or(NITRATE)
 }
 
+/// A candidate of the largest fraction, which needs the smallest dose: what
+/// the tank's BOD removes never falls with the fraction.
+fn largest_fraction(tank: TankFlow) -> Candidate {
+    let [fraction, return_ratio, thickening] = &GRID;
+    Candidate {
+        fraction: fraction.most(tank),
+        return_ratio: return_ratio.least,
+        thickening: thickening.least,
+    }
+}
+
+/// What moves the candidates that nitrate stops, where it stops all; a dose
+/// only where one covers some of them.
+fn nitrate_remedy(request: &Request) -> String {
+    let dose = least_dose(request, largest_fraction(request.tank))
+        .map(|dose| format!(" a dose of at least {dose} mg/m3 as COD,\n "));
+    format!(
+        "a looser nitrate-target,{} another process, the readings of nitrogen and bod",
+        dose.unwrap_or_default()
+    )
+}
+
 /// What moves the candidates that a rule stops.
-fn remedy(rule: u32) -> &'static str {
+fn remedy(rule: u32, request: &Request) -> String {
     match rule {
-        NITRATE => "a looser nitrate-target, another process, the readings of nitrogen and bod",
+        NITRATE => return nitrate_remedy(request),
         SOLIDS => "another removal, another sludge-volume-index",
         SURFACE => "a larger site-surface, another tank or removal, the wet-weather-flow",
         DEPTH => "a larger site-depth, another tank or removal",
         _ => "the candidates that it stops",
     }
+    .to_string()
 }
 
 /// The lines of a census without a permitted candidate, and where to look.
-pub fn advice(census: &Census) -> String {
+pub fn advice(request: &Request, census: &Census) -> String {
     let mut text: String = lines(census).map(|line| format!("\n  {line}")).collect();
     let rule = first(census);
     text += &format!("\n  Look first at {}, which stops the most", label(rule));
     if rule != NITRATE && census.count(NITRATE) > census.count(rule) {
         text += " of those that keep the nitrate\n  \
-                 (a looser nitrate-target alone cannot help: every tank is stopped)";
+                 (a looser nitrate-target or a dose alone cannot help: every tank is stopped)";
     }
     text + &format!(
         ":\n  {}.\n  'pewgull explain FILE F R H' shows how far a candidate is from its limits",
-        remedy(rule)
+        remedy(rule, request)
     )
 }
 
@@ -97,10 +122,11 @@ mod tests {
 
     #[test]
     fn every_rule_has_its_remedy() {
-        let mut remedies: Vec<&str> = COUNTED[1..].iter().map(|rule| remedy(*rule)).collect();
+        let of = |rule| remedy(rule, &Request::default());
+        let mut remedies: Vec<String> = COUNTED[1..].iter().map(|rule| of(*rule)).collect();
         remedies.sort();
         remedies.dedup();
         assert_eq!(remedies.len(), 4);
-        assert!(!remedies.contains(&remedy(SHEET)));
+        assert!(!remedies.contains(&of(SHEET)));
     }
 }

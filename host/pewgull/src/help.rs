@@ -73,7 +73,19 @@ pub fn manual() -> String {
         COUNTED.map(census::label).join(", ")
     );
     text += &day_log();
-    text += "\nThe keys of a plant file\n";
+    text += &keys();
+    text += "\nThe refusals\n";
+    for refusal in number::ALL {
+        if number::is_refusal(refusal.number) {
+            text += &format!("  {:>3} {}\n", refusal.number, refusal.word);
+        }
+    }
+    text
+}
+
+/// The keys of a plant file, and what their values are.
+fn keys() -> String {
+    let mut text = "\nThe keys of a plant file\n".to_string();
     for key in &KEYS {
         let (name, meaning) = (key.name, key.meaning);
         text += &match &key.field {
@@ -84,19 +96,23 @@ pub fn manual() -> String {
             Field::Word(words, _) => format!("  {name:<21} {}\n", wrapped(words, 24)),
         };
     }
-    text += &format!(
-        "A reading is 'measured X', 'below X' (half of X counts) or 'heads N', N in\n\
+    text + &format!(
+        "May be left out, with the value that then counts: {}.\n\
+         A reading is 'measured X', 'below X' (half of X counts) or 'heads N', N in\n\
          {}; X in mg/l, or bits: and the eight hex digits of an f32. Its range is\n\
          that of the concentration that comes out.\n",
+        optional(),
         HEADS.digits()
-    );
-    text += "\nThe refusals\n";
-    for refusal in number::ALL {
-        if number::is_refusal(refusal.number) {
-            text += &format!("  {:>3} {}\n", refusal.number, refusal.word);
-        }
-    }
-    text
+    )
+}
+
+/// The keys that may be left out, with their values.
+fn optional() -> String {
+    let values = KEYS.iter().filter_map(|key| {
+        let value = key.default?;
+        Some(format!("{} {value}", key.name))
+    });
+    values.collect::<Vec<_>>().join(", ")
 }
 
 /// The lines of a load, what a log holds, and the load of a plant.

@@ -43,6 +43,19 @@ pub struct Key {
     pub name: &'static str,
     pub meaning: &'static str,
     pub field: Field,
+    /// The value that counts where the key is left out; without one the key
+    /// has to be given
+    pub default: Option<&'static str>,
+}
+
+const fn required(name: &'static str, meaning: &'static str, field: Field) -> Key {
+    let default = None;
+    Key {
+        name,
+        meaning,
+        field,
+        default,
+    }
 }
 
 const fn whole(
@@ -52,11 +65,7 @@ const fn whole(
     at: fn(&mut Request) -> &mut u32,
 ) -> Key {
     let field = Field::Whole(Range { least, most, unit }, at);
-    Key {
-        name,
-        meaning,
-        field,
-    }
+    required(name, meaning, field)
 }
 
 const fn word(
@@ -66,11 +75,7 @@ const fn word(
     set: fn(&mut Request, usize),
 ) -> Key {
     let field = Field::Word(words, set);
-    Key {
-        name,
-        meaning,
-        field,
-    }
+    required(name, meaning, field)
 }
 
 /// The range of its result in mg/l.
@@ -82,11 +87,7 @@ const fn reading(
 ) -> Key {
     let unit = "mg/l";
     let field = Field::Reading(Range { least, most, unit }, at);
-    Key {
-        name,
-        meaning,
-        field,
-    }
+    required(name, meaning, field)
 }
 
 const PROCESSES: [Process; 5] = [
@@ -115,9 +116,12 @@ const PROCESS_WORDS: &[&str] = &[
 
 const DEGREES: (u32, u32, &str) = (10, 20, "degrees Celsius");
 const PEAK: (u32, u32, &str) = (100, 300, "hundredths");
+/// Largest dose of external carbon, mg/m3 as COD.
+pub const MOST_DOSE: u32 = 500_000;
+const DOSE: (u32, u32, &str) = (0, MOST_DOSE, "mg/m3 as COD");
 
 #[rustfmt::skip]
-pub const KEYS: [Key; 23] = [
+pub const KEYS: [Key; 24] = [
     whole("load", "raw BOD5 load", (1, 100_000, "kg/d"), |r| &mut r.load),
     whole("flow", "daily flow", (1, 200_000, "m3/d"), |r| &mut r.flow),
     whole("wet-weather-flow", "wet weather flow", (1, 50_000, "m3/h"), |r| &mut r.wet_weather_flow),
@@ -141,9 +145,16 @@ pub const KEYS: [Key; 23] = [
     reading("solids", "solids", (0, 2_000), |r| &mut r.solids),
     reading("nitrogen", "nitrogen", (0, 500), |r| &mut r.nitrogen),
     reading("phosphorus", "phosphorus", (0, 100), |r| &mut r.phosphorus),
+    whole("dose", "dose of external carbon", DOSE, |r| &mut r.dose).optional("0"),
 ];
 
 impl Key {
+    /// The same key, which may be left out: this value counts then.
+    const fn optional(self, value: &'static str) -> Key {
+        let default = Some(value);
+        Key { default, ..self }
+    }
+
     /// What the key takes, in words.
     pub fn expected(&self) -> String {
         let name = self.name;
@@ -232,6 +243,16 @@ fn distance(from: &str, to: &str) -> usize {
 #[cfg(test)]
 mod tests {
     use super::*;
+
+    #[test]
+    fn a_default_is_a_value_of_its_key() {
+        for key in &KEYS {
+            if let Some(value) = key.default {
+                let words: Vec<&str> = value.split(' ').collect();
+                assert_eq!(key.put(&mut Request::default(), &words), Ok(()));
+            }
+        }
+    }
 
     #[test]
     fn distances() {

@@ -25,11 +25,16 @@ pub fn parse(bytes: &[u8]) -> Result<Request, Vec<Fault>> {
             faults.add(last, what);
         }
     }
-    if let Some(what) = missing(&first_lines) {
+    if let Err(what) = fill(&mut request, &first_lines) {
         faults.add(last, what);
     }
     faults.none_or(EXPECTED)?;
     Ok(request)
+}
+
+/// The words of a line or of a default.
+fn words(content: &str) -> Vec<&str> {
+    content.split_whitespace().take(MOST_WORDS).collect()
 }
 
 /// Reads one line. `first_lines` holds for each key the line that has it.
@@ -40,7 +45,7 @@ fn read_line(
     first_lines: &mut [Option<usize>; KEYS.len()],
 ) -> Result<(), String> {
     let content = line.split('#').next().unwrap_or_default();
-    let words: Vec<&str> = content.split_whitespace().take(MOST_WORDS).collect();
+    let words = words(content);
     let Some((name, value)) = words.split_first() else {
         return Ok(());
     };
@@ -67,24 +72,27 @@ fn unknown(name: &str) -> String {
     format!("'{}' is no key; expected {expected}", values::shown(name))
 }
 
-/// The keys that no line has.
-fn missing(first_lines: &[Option<usize>; KEYS.len()]) -> Option<String> {
-    let absent: Vec<_> = KEYS
-        .iter()
-        .zip(first_lines)
-        .filter(|(_, line)| line.is_none())
-        .map(|(key, _)| key)
-        .collect();
-    match absent.as_slice() {
-        [] => None,
-        [key] => Some(format!(
+/// Puts in the defaults of the keys that no line has. The error names the
+/// keys without a default.
+fn fill(request: &mut Request, first_lines: &[Option<usize>; KEYS.len()]) -> Result<(), String> {
+    let mut missing = Vec::new();
+    for (key, line) in KEYS.iter().zip(first_lines) {
+        match (line, key.default) {
+            (Some(_), _) => {}
+            (None, Some(value)) => key.put(request, &words(value))?,
+            (None, None) => missing.push(key),
+        }
+    }
+    match missing.as_slice() {
+        [] => Ok(()),
+        [key] => Err(format!(
             "key '{}' is missing; expected {}",
             key.name,
             key.expected()
         )),
         several => {
             let names: Vec<_> = several.iter().map(|key| key.name).collect();
-            Some(format!(
+            Err(format!(
                 "{} keys are missing; expected also: {}",
                 several.len(),
                 names.join(" ")

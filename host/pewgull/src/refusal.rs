@@ -3,6 +3,7 @@
 use crate::census;
 use crate::culprit;
 use crate::explanation::{self, LEAST_SOLIDS, MOST_SLUDGE_VOLUME};
+use crate::keys::MOST_DOSE;
 use library::number::{self, *};
 use library::sheet::{candidates, GRID};
 use library::{Candidate, Figures, Request, TankFlow};
@@ -41,7 +42,7 @@ fn flow_name(tank: TankFlow) -> &'static str {
 /// The census, and what to look at first.
 fn no_design(request: &Request) -> String {
     let count = candidates(request.tank);
-    let advice = census::counts(request).map(|counts| census::advice(&counts));
+    let advice = census::counts(request).map(|counts| census::advice(request, &counts));
     format!(
         "the grid holds {},{:03} candidates in {} flow, and none is permitted.{}",
         count / 1000,
@@ -103,11 +104,14 @@ fn moves(way: Move, tank: TankFlow, candidate: Candidate) -> String {
 fn broken_limit(number: u32, request: &Request, candidate: Candidate, figures: &Figures) -> String {
     let both = &["R", "H"];
     let (text, keys, way) = match number {
-        NITRATE => (
-            nitrate(figures),
-            "nitrate-target, nitrogen and bod, design-temperature",
-            Move::Larger(&["F"]),
-        ),
+        NITRATE => {
+            let dose = explanation::least_dose(request, candidate);
+            let keys = match dose {
+                Some(_) => "nitrate-target, dose, nitrogen and bod, design-temperature",
+                None => "nitrate-target, nitrogen and bod, design-temperature",
+            };
+            (nitrate(figures, dose), keys, Move::Larger(&["F"]))
+        }
         SOLIDS if figures.solids < LEAST_SOLIDS => (
             few_solids(figures),
             "sludge-volume-index, removal",
@@ -130,12 +134,24 @@ fn broken_limit(number: u32, request: &Request, candidate: Candidate, figures: &
     format!("{text}\n  Look at {keys}{moves}")
 }
 
-fn nitrate(figures: &Figures) -> String {
+/// The two nitrate columns, the parts of the right one, and the least dose
+/// that covers the left one.
+fn nitrate(figures: &Figures, least_dose: Option<u32>) -> String {
+    let dose = match least_dose {
+        Some(dose) => format!("The least dose that covers it: {dose} mg/m3 as COD."),
+        None => format!("No dose up to {MOST_DOSE} mg/m3 as COD covers it."),
+    };
     format!(
         "the tank cannot remove enough nitrate.\n  \
-         to be removed           {:>8} mg/m3\n  \
-         the tank can remove     {:>8} mg/m3",
-        figures.nitrate_to_remove, figures.nitrate_removable
+         to be removed             {:>8} mg/m3\n  \
+         removed by the tank's BOD {:>8} mg/m3\n  \
+         removed by the dose       {:>8} mg/m3\n  \
+         the tank can remove       {:>8} mg/m3\n  \
+         {dose}",
+        figures.nitrate_to_remove,
+        figures.removed_by_bod,
+        figures.removed_by_dose,
+        figures.nitrate_removable
     )
 }
 

@@ -3,7 +3,7 @@
 mod common;
 
 use common::{example, file, pewgull, replaced, with, CASE_A, CASE_A_LISTING};
-use std::fs::File;
+use std::fs::{self, File};
 use std::process::{Command, Stdio};
 
 const NONE_PERMITTED: &str = "permitted 0\nnitrate 83076\nsolids 0\nsurface 0\ndepth 0\n";
@@ -37,6 +37,8 @@ fn explain_prints_figures_beside_limits() {
         .collect();
     let expected = [
         "nitrate-to-remove 26000 at most 26000 mg/m3 kept",
+        "nitrate-removed-by-bod 26000 mg/m3",
+        "nitrate-removed-by-dose 0 mg/m3",
         "nitrate-removable 26000 at least 26000 mg/m3 kept",
         "solids 3777 at least 1000 g/m3 kept",
         "sludge-volume 378 at most 600 l/m3 kept",
@@ -85,9 +87,10 @@ type Refused = (
 );
 
 #[rustfmt::skip]
-const REFUSALS: [Refused; 15] = [
+const REFUSALS: [Refused; 17] = [
     (1, "load", "load 0", "300", &["plant data", "\n  load 0: expected 1..100000 kg/d\n"]),
     (1, "flow", "flow 4294967295", "300", &["flow 4294967295: expected 1..200000 m3/d"]),
+    (1, "phosphorus", "phosphorus measured 8\ndose 500001", "300", &["\n  dose 500001: expected 0..500000 mg/m3 as COD\n"]),
     (2, "bod", "bod measured nan", "300", &["no number", "bod measured NaN: expected a finite number"]),
     (2, "cod", "cod below -1", "300", &["no number", "cod below -1: expected", "not below zero"]),
     (3, "bod", "bod measured 19", "300", &["reading range", "bod measured 19 comes to 19.000 mg/l: expected 20..2000 mg/l"]),
@@ -97,8 +100,9 @@ const REFUSALS: [Refused; 15] = [
     (3, "solids", "solids measured 1e38", "300", &["solids measured 1e38 comes to 1.000e38 mg/l: expected 0..2000 mg/l"]),
     (4, "cod", "cod measured 440.1", "300", &["COD ratio", "cod 440.100 mg/l, bod 200.000 mg/l", "2.2 times bod"]),
     (6, "load", "load 1200", "501", &["off grid", "F 501: expected 200..500 thousandths"]),
-    (7, "load", "load 1200", "299", &["nitrate", "26000 mg/m3", "25800 mg/m3", "a larger F"]),
-    (7, "nitrogen", "nitrogen measured 100", "500", &["nitrate", "Look at nitrate-target"]),
+    (7, "load", "load 1200", "299", &["nitrate", "least dose that covers it: 1000 mg/m3 as COD.", "a larger F"]),
+    (7, "nitrogen", "nitrogen measured 150", "500", &["covers it: 500000 mg/m3 as COD.", "Look at nitrate-target, dose, "]),
+    (7, "nitrogen", "nitrogen measured 150.001", "500", &["No dose up to 500000 mg/m3 as COD covers it.", "Look at nitrate-target, nitrogen "]),
     (9, "site-surface", "site-surface 453", "300", &["surface 454 m2", "site-surface 453 m2", "a smaller R\n"]),
     (10, "site-depth", "site-depth 4536", "300", &["depth 4537 mm", "site-depth 4536 mm"]),
 ];
@@ -122,6 +126,65 @@ fn refusals_are_told_in_words() {
             ran.err
         );
     }
+}
+
+/// Case A with a dose.
+fn dosed(dose: u32) -> String {
+    file(
+        &format!("dose-{dose}.plant"),
+        format!("{CASE_A}dose {dose}\n"),
+    )
+}
+
+#[test]
+fn the_nitrate_columns_are_told() {
+    let ran = pewgull(&["examine", &dosed(500), "299", "75", "20"]);
+    let columns = "\n  to be removed                26000 mg/m3\
+        \n  removed by the tank's BOD    25800 mg/m3\
+        \n  removed by the dose            100 mg/m3\
+        \n  the tank can remove          25900 mg/m3\n";
+    assert!(ran.err.contains(columns), "{}", ran.err);
+}
+
+/// With the dose that refusal 7 tells the candidate is permitted, with one
+/// less it is not.
+#[test]
+fn the_least_dose_is_told() {
+    for fraction in ["200", "250", "299"] {
+        let candidate = |path: &str| pewgull(&["examine", path, fraction, "75", "20"]);
+        let ran = candidate(&example("case-a.plant"));
+        let (_, told) = ran.err.split_once("covers it: ").unwrap();
+        let dose: u32 = told.split(' ').next().unwrap().parse().unwrap();
+        assert_eq!(candidate(&dosed(dose)).status, 0);
+        let short = candidate(&dosed(dose - 1));
+        assert_eq!(short.out, "refused 7\n");
+        assert!(short.err.contains(&format!("covers it: {dose} mg/m3")));
+    }
+}
+
+/// The nitrate that the dose removes saves no oxygen: with a dose for all of
+/// it the uptake is carbon and nitrification alone.
+#[test]
+fn a_dose_moves_the_oxygen_alone() {
+    let ran = pewgull(&["examine", &dosed(130_000), "300", "75", "20"]);
+    let expected = CASE_A_LISTING
+        .replace("oxygen 99292", "oxygen 115000")
+        .replace("transfer 127662", "transfer 147858");
+    assert_eq!((ran.status, ran.out), (0, expected));
+}
+
+#[test]
+fn explain_prints_what_the_dose_removes() {
+    let ran = pewgull(&["explain", &dosed(1_004), "299", "75", "20"]);
+    let lines: Vec<&str> = ran.out.lines().take(4).collect();
+    let expected = [
+        "nitrate-to-remove          26000  at most     26000 mg/m3  kept",
+        "nitrate-removed-by-bod     25800                    mg/m3",
+        "nitrate-removed-by-dose      200                    mg/m3",
+        "nitrate-removable          26000  at least    26000 mg/m3  kept",
+    ];
+    assert_eq!((ran.status, lines), (0, expected.to_vec()));
+    assert!(ran.out.ends_with("\nverdict 0\n"), "{}", ran.out);
 }
 
 /// Nothing is advised that the grid has no room for.
@@ -214,12 +277,14 @@ fn a_refused_census() {
 type NoDesign = (&'static str, [u32; 4], &'static [&'static str]);
 
 #[rustfmt::skip]
-const NO_DESIGNS: [NoDesign; 5] = [
-    ("nitrogen measured 100", [83_076, 0, 0, 0], &["first at nitrate, which stops the most:", "a looser nitrate-target"]),
+const NO_DESIGNS: [NoDesign; 7] = [
+    ("nitrogen measured 100", [83_076, 0, 0, 0], &["first at nitrate, which stops the most:", "a looser nitrate-target, a dose of at least 250000 mg/m3 as COD,\n  another process"]),
+    ("nitrogen measured 150", [83_076, 0, 0, 0], &["a dose of at least 500000 mg/m3 as COD,"]),
+    ("nitrogen measured 150.001", [83_076, 0, 0, 0], &["a looser nitrate-target, another process, the readings"]),
     ("site-surface 1", [27_600, 0, 55_476, 0], &["first at surface, which stops the most:", "a larger site-surface"]),
     ("removal hopper\nsite-depth 3000", [27_600, 0, 0, 55_476], &["first at depth, which stops the most:", "a larger site-depth"]),
     // nitrate stops more, and still it is the tank that nothing gets past
-    ("nitrogen measured 50\nsite-surface 1", [82_800, 0, 276, 0], &["first at surface, which stops the most of those that keep", "every tank is stopped"]),
+    ("nitrogen measured 50\nsite-surface 1", [82_800, 0, 276, 0], &["first at surface, which stops the most of those that keep", "or a dose alone cannot help: every tank is stopped"]),
     ("nitrogen measured 100\nsite-surface 1", [83_076, 0, 0, 0], &["first at nitrate, which stops the most:"]),
 ];
 
@@ -246,6 +311,31 @@ fn no_design_tells_the_census_and_where_to_look() {
         }
         assert!(ran.err.lines().skip(1).all(|told| told.len() <= 80));
     }
+}
+
+/// With the dose that refusal 5 tells, the candidates of the largest fraction
+/// keep the nitrate; with one less none does.
+#[test]
+fn no_design_tells_the_least_dose() {
+    let text = fs::read_to_string(example("short-of-bod.plant")).unwrap();
+    let plant = |dose: u32| file("dosed.plant", format!("{text}dose {dose}\n"));
+    let short = pewgull(&["choose", &plant(57_499)]);
+    assert_eq!(short.out, "refused 5\n");
+    for err in [pewgull(&["choose", &plant(0)]).err, short.err] {
+        assert!(err.contains("a dose of at least 57500 mg/m3"), "{err}");
+    }
+    let enough = pewgull(&["census", &plant(57_500)]).out;
+    assert!(enough.contains("\nnitrate 82800\n"), "{enough}");
+}
+
+/// No dose is advised where the largest is there already.
+#[test]
+fn no_dose_is_advised_past_the_largest() {
+    let text = with("nitrogen", "nitrogen measured 150.001") + "dose 500000\n";
+    let ran = pewgull(&["choose", &file("largest.plant", text)]);
+    assert_eq!(ran.out, "refused 5\n");
+    assert!(ran.err.contains("first at nitrate"), "{}", ran.err);
+    assert!(!ran.err.contains(" dose"), "{}", ran.err);
 }
 
 #[test]

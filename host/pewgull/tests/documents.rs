@@ -25,6 +25,17 @@ fn has(document: &str, name: &str, part: &str) {
     assert!(document.contains(part), "{name} has no '{part}'");
 }
 
+/// README.md shows the command on an example, with what it prints.
+fn shows(command: &str, example: &str) {
+    let path = repository().join(example);
+    let mut words: Vec<&str> = command.split(' ').collect();
+    words.push(path.to_str().unwrap());
+    let ran = pewgull(&words);
+    let shown = format!("    $ pewgull {command} {example}\n{}", ran.out);
+    let shown = shown.trim_end().replace('\n', "\n    ");
+    has(&document("README.md"), "README.md", &shown);
+}
+
 #[test]
 fn lines() {
     let (readme, header) = (document("README.md"), plain(&document("include/pewgull.h")));
@@ -68,10 +79,17 @@ fn keys() {
                 words.join(", ")
             }
         };
+        let default = match key.default {
+            Some(value) => {
+                has(&help, "help", &format!(" {name} {value}"));
+                format!("; left out: {value}")
+            }
+            None => String::new(),
+        };
         has(
             &readme,
             "README.md",
-            &format!("\n| `{name}` | {meaning} | {range} |\n"),
+            &format!("\n| `{name}` | {meaning} | {range}{default} |\n"),
         );
     }
     for document in [&plain(&readme), &header, &help] {
@@ -162,14 +180,14 @@ fn census() {
         let count = format!("{},{:03}", count / 1000, count % 1000);
         has(&header, "the header", &count);
     }
-    let plant = "examples/weak-sewage-no-design.plant";
-    let ran = pewgull(&["census", repository().join(plant).to_str().unwrap()]);
-    let shown = format!("    $ pewgull census {plant}\n{}", ran.out);
-    has(
-        &document("README.md"),
-        "README.md",
-        shown.trim_end().replace('\n', "\n    ").as_str(),
-    );
+    shows("census", "examples/weak-sewage-no-design.plant");
+}
+
+/// The works short of BOD, without a dose and with one.
+#[test]
+fn dose() {
+    shows("choose", "examples/short-of-bod.plant");
+    shows("choose", "examples/short-of-bod-with-methanol.plant");
 }
 
 /// The ranges of a day log, how its load serves for a plant, and the example.
@@ -199,14 +217,7 @@ fn load() {
         let use_of_it = "the sum divided by 14 and by 1,000,000,000, rounded up to a whole kg/d";
         has(document, "a document", use_of_it);
     }
-    let days = "examples/two-years.csv";
-    let ran = pewgull(&["load", "--csv", repository().join(days).to_str().unwrap()]);
-    let shown = format!("    $ pewgull load --csv {days}\n{}", ran.out);
-    has(
-        &readme,
-        "README.md",
-        shown.trim_end().replace('\n', "\n    ").as_str(),
-    );
+    shows("load --csv", "examples/two-years.csv");
 }
 
 #[test]
@@ -227,6 +238,15 @@ fn lengths() {
             "the header",
             &format!("#define PEWGULL_{name} {value} "),
         );
+    }
+    let (version, figures) = (library::VERSION, library::FIGURES_LENGTH);
+    for part in [
+        format!("The request, version {version}: "),
+        format!(" 0..3 version: {version} "),
+        format!("writes {figures} bytes of zeros"),
+        format!("fewer than {figures} bytes"),
+    ] {
+        has(&header, "the header", &part);
     }
 }
 

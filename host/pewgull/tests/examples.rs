@@ -9,7 +9,7 @@ use std::path::Path;
 use std::process::Command;
 
 /// Each file, its answer's first lines, and its exit status.
-const ANSWERS: [(&str, &str, i32); 7] = [
+const ANSWERS: [(&str, &str, i32); 9] = [
     (
         "case-a.plant",
         "fraction 300\nreturn 73\nthickening 21\n",
@@ -30,6 +30,12 @@ const ANSWERS: [(&str, &str, i32); 7] = [
         "fraction 336\nreturn 73\nthickening 25\n",
         0,
     ),
+    (
+        "short-of-bod-with-methanol.plant",
+        "fraction 250\nreturn 72\nthickening 22\n",
+        0,
+    ),
+    ("short-of-bod.plant", "refused 5\n", 1),
     (
         "town-pre-anoxic.plant",
         "fraction 320\nreturn 75\nthickening 25\n",
@@ -67,6 +73,26 @@ fn every_plant_is_in_the_table_and_says_what_it_shows() {
     }
     names.sort();
     assert_eq!(names, ANSWERS.map(|(name, _, _)| name));
+}
+
+/// The two works short of BOD differ in the dose alone; without it the
+/// nitrate stops every candidate.
+#[test]
+fn short_of_bod() {
+    let (without, with) = (
+        example("short-of-bod.plant"),
+        example("short-of-bod-with-methanol.plant"),
+    );
+    let data = |path: &str| {
+        let text = fs::read_to_string(path).unwrap();
+        text.split_once('\n').unwrap().1.to_string()
+    };
+    assert_eq!(data(&with), data(&without) + "dose 80000\n");
+    let census = pewgull(&["census", &without]).out;
+    assert!(
+        census.starts_with("permitted 0\nnitrate 83076\n"),
+        "{census}"
+    );
 }
 
 /// Summed anew from the file's tenths; Case A's load is its mean, rounded up.

@@ -76,11 +76,50 @@ fn empty_files() {
     refused("blank.plant", "\n\n# nothing\n", 3, wrong, "load flow");
 }
 
+/// Left out, the key `dose` is 0; it is not among the missing ones.
+#[test]
+fn a_key_with_a_default() {
+    assert!(!CASE_A.contains("dose"));
+    accepted("dose-left-out.plant", CASE_A);
+    accepted("dose-of-0.plant", format!("{CASE_A}dose 0\n"));
+    let ran = examine(&file("no-key.plant", ""));
+    assert!(!ran.err.contains("dose"), "{}", ran.err);
+    let expected = "expected 'dose N', N a whole number from 0 to 500000 in mg/m3 as COD";
+    for (place, (line, wrong)) in [
+        ("dose x", "'x' is not a whole number"),
+        ("dose -1", "'-1' is not a whole number"),
+        ("dose", "the value is missing"),
+        ("dose 4294967296", "'4294967296' is too large"),
+        ("dose 5 mg/m3", "'mg/m3' is one word too many"),
+    ]
+    .iter()
+    .enumerate()
+    {
+        let text = format!("{CASE_A}{line}\n");
+        refused(
+            &format!("bad-dose-{place}.plant"),
+            text,
+            24,
+            wrong,
+            expected,
+        );
+    }
+}
+
 #[test]
 fn double_key() {
     let twice = format!("{CASE_A}flow 5000\n");
     let wrong = "key 'flow' was given in line 2 already";
     refused("double.plant", twice, 24, wrong, "expected each key once");
+    let twice = format!("{CASE_A}dose 0\ndose 0\n");
+    let wrong = "key 'dose' was given in line 24 already";
+    refused(
+        "double-dose.plant",
+        twice,
+        25,
+        wrong,
+        "expected each key once",
+    );
 }
 
 #[test]

@@ -87,6 +87,7 @@ fn figures_and_limits() {
     let expected = format!(
         "file {path}\nstatus figures\n\
         nitrate-to-remove 26000\nnitrate-to-remove-at-most 25800\n\
+        nitrate-removed-by-bod 25800\nnitrate-removed-by-dose 0\n\
         nitrate-removable 25800\nnitrate-removable-at-least 26000\n\
         solids 3777\nsolids-at-least 1000\nsludge-volume 378\nsludge-volume-at-most 600\n\
         surface 454\nsurface-at-most 1000\ndepth 4537\ndepth-at-most 5000\n\

@@ -127,10 +127,19 @@ fn odd_reading(random: &mut Random) -> Reading {
     }
 }
 
+/// Where each reading goes.
+fn readings() -> Vec<fn(&mut Request) -> &mut Reading> {
+    let at = KEYS.iter().map(|key| match key.field {
+        Field::Reading(_, at) => Some(at),
+        _ => None,
+    });
+    at.flatten().collect()
+}
+
 /// Case A with one plant figure at an edge now and then, and odd readings.
 fn odd_request(random: &mut Random) -> Request {
     let mut request = case_a();
-    let key = &KEYS[random.next() as usize % 18];
+    let key = &KEYS[random.next() as usize % KEYS.len()];
     match &key.field {
         Field::Whole(range, at) if random.next() % 4 == 0 => {
             let edges = [
@@ -145,9 +154,8 @@ fn odd_request(random: &mut Random) -> Request {
         _ => {}
     }
     for _ in 0..random.next() % 3 {
-        if let Field::Reading(_, at) = KEYS[18 + random.next() as usize % 5].field {
-            *at(&mut request) = odd_reading(random);
-        }
+        let at = random.pick(&readings());
+        *at(&mut request) = odd_reading(random);
     }
     request
 }

@@ -18,9 +18,9 @@ pub fn nitrification_oxygen(daily_flow: u64, to_nitrify: u64) -> u64 {
     up(43 * daily_flow * to_nitrify, 10_000)
 }
 
-/// Oxygen saved by denitrification, g/d.
-pub fn saved_oxygen(daily_flow: u64, to_denitrify: u64) -> u64 {
-    down(29 * daily_flow * to_denitrify, 10_000)
+/// Oxygen saved by denitrification, g/d, on the nitrate left to the BOD.
+pub fn saved_oxygen(daily_flow: u64, left_to_bod: u64) -> u64 {
+    down(29 * daily_flow * left_to_bod, 10_000)
 }
 
 /// Hourly oxygen, g/h: the larger of the carbon peak and the nitrogen peak.

@@ -80,7 +80,7 @@ fn aeration(plant: &Plant, bod: u64, nitrate: &Nitrate) -> (u64, u64) {
     let weighted = weighted_sludge_age(nitrate.age, factor);
     let hourly = hourly_oxygen(
         carbon_oxygen(flow, bod, uptake_for_aeration(weighted)),
-        saved_oxygen(flow, nitrate.to_denitrify),
+        saved_oxygen(flow, nitrate.left_to_bod()),
         nitrification_oxygen(flow, nitrate.to_nitrify),
         u64::from(plant.carbon_peak_factor),
         u64::from(plant.nitrogen_peak_factor),

@@ -1,4 +1,4 @@
-//! Nitrogen balance and denitrification capacity.
+//! Nitrogen balance, denitrification capacity and external carbon.
 
 use crate::plant::Process;
 use crate::rounding::down;
@@ -62,7 +62,22 @@ pub fn denitrification_capacity(
     }
 }
 
-/// Whether the capacity covers the nitrate to be denitrified.
-pub fn is_covered(capacity: u64, bod: u64, to_denitrify: u64) -> bool {
-    capacity * bod >= 1000 * to_denitrify
+/// Nitrate that the dose of external carbon removes: one part for five of COD.
+pub fn removed_by_dose(dose: u64) -> u64 {
+    down(dose, 5)
+}
+
+/// Nitrate that the BOD removes.
+pub fn removed_by_bod(capacity: u64, bod: u64) -> u64 {
+    down(capacity * bod, 1000)
+}
+
+/// Whether the capacity and the dose cover the nitrate to be denitrified.
+pub fn is_covered(capacity: u64, bod: u64, by_dose: u64, to_denitrify: u64) -> bool {
+    capacity * bod + 1000 * by_dose >= 1000 * to_denitrify
+}
+
+/// Nitrate that the dose leaves to the BOD; this alone saves oxygen.
+pub fn left_to_bod(to_denitrify: u64, by_dose: u64) -> u64 {
+    to_denitrify.saturating_sub(by_dose)
 }

@@ -73,6 +73,8 @@ pub struct Plant {
     pub tank_flow: TankFlow,
     pub removal: Removal,
     pub primary_settling: PrimarySettling,
+    /// External carbon dosed for denitrification, mg/m3 as COD
+    pub dose: u32,
 }
 
 impl Plant {
@@ -91,5 +93,6 @@ impl Plant {
             && (6_000..=15_000).contains(&self.oxygen_saturation)
             && (1..=100_000).contains(&self.site_surface)
             && (3_000..=10_000).contains(&self.site_depth)
+            && self.dose <= 500_000
     }
 }

@@ -9,7 +9,6 @@ use crate::nitrogen::*;
 use crate::plant::{Plant, Removal, TankFlow};
 use crate::reading::{accept, Reading};
 use crate::refusal;
-use crate::rounding::down;
 use crate::settling as step;
 use crate::sludge::*;
 
@@ -21,6 +20,7 @@ pub struct Nitrate {
     pub to_nitrify: u64,
     pub to_denitrify: u64,
     pub capacity: u64,
+    pub by_dose: u64,
 }
 
 pub fn nitrate(plant: &Plant, accepted: &[u64; 5], fraction: u64) -> Nitrate {
@@ -36,17 +36,21 @@ pub fn nitrate(plant: &Plant, accepted: &[u64; 5], fraction: u64) -> Nitrate {
         to_nitrify,
         to_denitrify: nitrate_to_denitrify(to_nitrify, u64::from(plant.nitrate_target)),
         capacity: denitrification_capacity(plant.process, fraction, temperature, weighted_age),
+        by_dose: removed_by_dose(u64::from(plant.dose)),
     }
 }
 
 impl Nitrate {
     pub fn is_covered(&self, bod: u64) -> bool {
-        is_covered(self.capacity, bod, self.to_denitrify)
+        is_covered(self.capacity, bod, self.by_dose, self.to_denitrify)
     }
 
-    /// Nitrate that the tank can remove, rounded down.
-    pub fn removable(&self, bod: u64) -> u64 {
-        down(self.capacity * bod, 1000)
+    pub fn by_bod(&self, bod: u64) -> u64 {
+        removed_by_bod(self.capacity, bod)
+    }
+
+    pub fn left_to_bod(&self) -> u64 {
+        left_to_bod(self.to_denitrify, self.by_dose)
     }
 }
 
@@ -134,6 +138,9 @@ pub fn settling(plant: &Plant, ratio: u64, time: u64, root: u64) -> Settling {
 #[derive(Clone, Copy, Debug)]
 pub struct Stages {
     pub nitrate: Nitrate,
+    /// Nitrate that the BOD removes.
+    pub by_bod: u64,
+    /// Nitrate that BOD and dose remove together.
     pub removable: u64,
     pub settling: Settling,
 }
@@ -147,9 +154,11 @@ pub fn explain(plant: &Plant, readings: &[Reading; 5], candidate: Candidate) -> 
     let time = u64::from(candidate.thickening);
     let ratio = u64::from(candidate.return_ratio);
     let nitrate = nitrate(plant, &accepted, u64::from(candidate.fraction));
+    let by_bod = nitrate.by_bod(accepted[0]);
     Ok(Stages {
         nitrate,
-        removable: nitrate.removable(accepted[0]),
+        by_bod,
+        removable: by_bod + nitrate.by_dose,
         settling: settling(plant, ratio, time, step::cube_root(time)),
     })
 }

@@ -6,6 +6,8 @@ mod census;
 mod common;
 #[path = "cases/day_log.rs"]
 mod day_log;
+#[path = "cases/dose.rs"]
+mod dose;
 #[path = "cases/errors.rs"]
 mod errors;
 #[path = "cases/extremes.rs"]

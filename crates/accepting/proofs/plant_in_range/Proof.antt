@@ -4,7 +4,7 @@ use mathlib.Core.Path.{_≡_, refl, sym, ap₂, _∙_}
 use mathlib.Core.Bool.{Bool, true, _&&_, and-assoc, and-true}
 use mathlib.Core.List.{List, [], _∷_}
 use borrow.Author.Needs.{needs}
-use Rattle.rules.specs.PlantData.{within, Figure, allWithin, plantInRange, plantFigures}
+use Rattle.rules.specs.PlantData.{within, Figure, allWithin, plantInRange, figuresWithoutDose, plantFigures}
 use Rattle.accepting.proofs.plant_in_range.Statement.{statement}
 use Rattle.accepting.proofs.plant_in_range.Tie as tie
 
@@ -42,9 +42,10 @@ in-turn (b ∷ l) t e = joined-to b l ∙ tested (b ∷ l) t e
 
 -- the tests' places, from the last back
 returns : tie.Need-returns
-unfolding plantInRange plantFigures
+unfolding plantInRange plantFigures figuresWithoutDose
 returns c =
-    let t12 = c .before in
+    let t13 = c .before in
+    let t12 = t13 .before in
     let t11 = t12 .before in
     let t10 = t11 .before in
     let t9 = t10 .before in
@@ -69,15 +70,17 @@ returns c =
     ∷ t10 .within10 .result
     ∷ t11 .within11 .result
     ∷ t12 .within12 .result
-    ∷ c .within13 .result
+    ∷ t13 .within13 .result
+    ∷ c .within14 .result
     ∷ [] in
     in-turn tests (plantFigures (t1 .before .args .plant))
-    (t1 .within .ensures, (t2 .within2 .ensures, (t3 .within3 .ensures, (t4 .within4 .ensures, (t5 .within5 .ensures, (t6 .within6 .ensures, (t7 .within7 .ensures, (t8 .within8 .ensures, (t9 .within9 .ensures, (t10 .within10 .ensures, (t11 .within11 .ensures, (t12 .within12 .ensures, (c .within13 .ensures, tt)))))))))))))
+    (t1 .within .ensures, (t2 .within2 .ensures, (t3 .within3 .ensures, (t4 .within4 .ensures, (t5 .within5 .ensures, (t6 .within6 .ensures, (t7 .within7 .ensures, (t8 .within8 .ensures, (t9 .within9 .ensures, (t10 .within10 .ensures, (t11 .within11 .ensures, (t12 .within12 .ensures, (t13 .within13 .ensures, (c .within14 .ensures, tt))))))))))))))
 
 pub plant-in-range-spec : {M : Type 1} → statement M
 plant-in-range-spec =
     tie.close
     (tie.spec
+    (λ c κs. search needs)
     (λ c κs. search needs)
     (λ c κs. search needs)
     (λ c κs. search needs)

@@ -1,17 +1,18 @@
 -- `aeration` meets its contract: each call gives its step, and the steps are the definition's. Assumes nothing.
 use borrow.Author.Needs.{needs}
-use Rattle.rules.specs.AerationSteps.{aerationOf}
+use Rattle.rules.specs.AerationSteps.{aerationSaving, aerationOf}
 use Rattle.aeration.proofs.aeration.Statement.{statement}
 use Rattle.aeration.proofs.aeration.Tie as tie
 
 returns : tie.Need-returns
-unfolding aerationOf
+unfolding aerationSaving aerationOf
 returns c =
     let transfer = c .before in
     let hourly = transfer .before in
     let nitrification = hourly .before in
     let net = nitrification .before in
-    let uptake = net .before in
+    let own = net .before in
+    let uptake = own .before in
     let corrected = uptake .before in
     rw (
       c .recirculated .ensures,
@@ -19,6 +20,7 @@ returns c =
       hourly .hourly-oxygen .ensures .0,
       nitrification .nitrification-oxygen .ensures .0,
       net .net-carbon .ensures .0,
+      own .denitrified-by-bod .ensures .0,
       uptake .aeration-uptake .ensures .0,
       corrected .corrected-age .ensures .0,
     )
@@ -33,6 +35,7 @@ aeration-spec =
     (λ c. search needs)
     (λ c. search needs)
     (λ c. search needs)
+    (λ c κs. search needs)
     (λ c κs. search needs)
     (λ c κs. search needs)
     (λ c κs. search needs)

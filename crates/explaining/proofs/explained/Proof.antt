@@ -1,9 +1,10 @@
 -- `explained` meets its contract: the stages are the steps', and the figures are handed on. Assumes nothing.
 use borrow.Author.Needs.{needs}
+use native.Mathlib.Omega.{arith}
 use mathlib.Core.Path.{_≡_}
 use mathlib.Core.List.{_++_}
 use Rattle.rules.specs.Rules.{verdict}
-use Rattle.rules.specs.AgeNitrate.{removable}
+use Rattle.rules.specs.AgeNitrate.{removedByBod, removable}
 use Rattle.rules.specs.ReactorSteps.{reactorOf}
 use Rattle.rules.specs.SettlingSteps.{settlingOf}
 use Rattle.rules.specs.Examining.{fractionRules, tankRules}
@@ -26,7 +27,9 @@ handed-on :
     → _≡_ {A = Explained}
     (record {
       denitrified = r .denitrified;
-      removable = removable (r .removes);
+      «removed_by_bod» = removedByBod (r .removes);
+      «removed_by_dose» = r .«removed_by_dose»;
+      removable = removable (r .removes) (r .«removed_by_dose»);
       solids = s .solids;
       «sludge_volume» = s .«sludge_volume»;
       surface = s .surface;
@@ -37,8 +40,11 @@ handed-on :
 unfolding candidateExplained explainedBy
 handed-on p x y r s v er es ev = rw (ev, er, es)
 
+add-t10 : tie.Need-add-t10
+add-t10 c = omega (arith, c .before .before .before .stages-of .ensures .reactorBounds)
+
 returns : tie.Need-returns
-unfolding removable
+unfolding removedByBod removable
 returns c =
     let start = c .before .before .before .before in
     let staged = c .before .before .before in
@@ -47,4 +53,4 @@ returns c =
     (staged .stages-of .ensures .reactor) (staged .stages-of .ensures .settling) (staged .stages-of .ensures .verdict)
 
 pub explained-spec : {M : Type 1} → statement M
-explained-spec = tie.close (tie.spec (λ c κs. search needs) returns)
+explained-spec = tie.close (tie.spec (λ c κs. search needs) add-t10 returns)

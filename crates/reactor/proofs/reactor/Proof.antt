@@ -7,24 +7,18 @@ use Rattle.rules.specs.ReactorSteps.{reactorOf}
 use Rattle.reactor.proofs.reactor.Statement.{statement}
 use Rattle.reactor.proofs.reactor.Tie as tie
 
-phosphorus-sludge-requires : tie.Need-phosphorus-sludge-requires
-phosphorus-sludge-requires c κs =
-    let start = c .before .before .before .before .before .before .before .before .before .before .before .before .before .before in
-    (start .pre .0 .flow .most, c .before .sludge-per-phosphorus .ensures .1, start .pre .1 .phosphorus .most)
-
 mul-removes : tie.Need-mul-removes
 mul-removes c =
-    let capacity = c .before .before .before .before .before in
-    let start = capacity .before .before .before .before .before .before .before .before .before .before .before in
-    omega (arith, mul-le-mul (capacity .capacity .ensures .1) (start .pre .1 .bod .most))
+    let corrected = c .before .before .before .before in
+    let start = corrected .before .before .before .before .before .before .before in
+    omega (arith, mul-le-mul (c .capacity .ensures .1) (start .pre .1 .bod .most))
 
 returns : tie.Need-returns
 unfolding reactorOf
 returns c =
-    let phosphorus = c .before in
-    let share = phosphorus .before .before in
-    let carbon = share .before in
-    let capacity = carbon .before in
+    let sludge = c .before in
+    let byDose = sludge .before in
+    let capacity = byDose .before in
     let denitrified = capacity .before in
     let nitrified = denitrified .before .before in
     let corrected = nitrified .before in
@@ -34,9 +28,8 @@ returns c =
     let start = factor .before .before .before .before in (
       rw (
         c .sludge-mass .ensures .0,
-        phosphorus .phosphorus-sludge .ensures .0,
-        share .sludge-per-phosphorus .ensures .0,
-        carbon .carbon-sludge .ensures .0,
+        sludge .sludge-production .ensures .0,
+        byDose .removed-by-dose .ensures .0,
         capacity .capacity .ensures .0,
         denitrified .denitrified .ensures .0,
         nitrified .nitrified .ensures .0,
@@ -51,7 +44,8 @@ returns c =
         nitrified = nitrified .nitrified .ensures .1;
         denitrified = denitrified .denitrified .ensures .1;
         removes = omega (arith, mul-le-mul (capacity .capacity .ensures .1) (start .pre .1 .bod .most));
-        sludge = omega (arith, carbon .carbon-sludge .ensures .1, phosphorus .phosphorus-sludge .ensures .1);
+        byDose = byDose .removed-by-dose .ensures .1;
+        sludge = sludge .sludge-production .ensures .1;
         mass = c .sludge-mass .ensures .1;
       },
     )
@@ -71,11 +65,8 @@ reactor-spec =
     (λ c. search needs)
     (λ c κs. search needs)
     (λ c κs. search needs)
-    (λ c κs. search needs)
-    (λ c κs. search needs)
-    (λ c. search needs)
-    phosphorus-sludge-requires
-    (λ c. search needs)
-    (λ c κs. search needs)
     mul-removes
+    (λ c κs. search needs)
+    (λ c κs. search needs)
+    (λ c κs. search needs)
     returns)

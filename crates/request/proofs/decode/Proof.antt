@@ -1,29 +1,57 @@
--- `decode` meets its contract: a request of another length, or its data decoded. Assumes nothing.
-use mathlib.Core.Path.{_∙_, ap}
+-- `decode` meets its contract: a request of another version, of another length, or its data decoded. Assumes nothing.
+use mathlib.Core.Path.{sym, ap, _∙_}
+use Prim.Native.Nat.{ℕ}
+use lib.Dec.{eqb}
 use borrow.Author.Needs.{needs}
-use borrow.Author.Tests.{eq-eqb, ne-eqb}
-use Rattle.request.specs.Layout.{decode, decodeWords}
+use borrow.Author.Tests.{eq-eqb, ne-eqb, le-leb, lt-leb}
+use Rattle.request.specs.Layout.{version, decode, decodeWords}
 use Rattle.request.proofs.decode.Statement.{statement}
 use Rattle.request.proofs.decode.Tie as tie
 
 returns : tie.Need-returns
 unfolding decode
-returns c = rw (ne-eqb _ _ (c .if1 .taken))
+returns c = rw (lt-leb _ _ (c .if1 .taken))
 
 returns-2 : tie.Need-returns-2
 unfolding decode
 returns-2 c =
+    let read = c .before in
+    rw (le-leb _ _ (read .before .if1 .left), ap (λ (w : ℕ). eqb w version) (sym (read .word .ensures)) ∙ ne-eqb _ _ (c .if2 .taken))
+
+returns-3 : tie.Need-returns-3
+unfolding decode
+returns-3 c =
     let read = c .before .before in
-    rw (eq-eqb _ _ (read .before .before .if1 .left)) (c .decode-words .ensures ∙ ap decodeWords (read .read-words .ensures))
+    rw (
+      le-leb _ _ (read .before .if1 .left),
+      ap (λ (w : ℕ). eqb w version) (sym (read .word .ensures)) ∙ eq-eqb _ _ (c .before .if2 .left),
+      ne-eqb _ _ (c .if3 .taken),
+    )
+
+returns-4 : tie.Need-returns-4
+unfolding decode
+returns-4 c =
+    let words = c .before .before in
+    let long = words .before .before in
+    let read = long .before .before in
+    rw (
+      le-leb _ _ (read .before .if1 .left),
+      ap (λ (w : ℕ). eqb w version) (sym (read .word .ensures)) ∙ eq-eqb _ _ (long .before .if2 .left),
+      eq-eqb _ _ (long .if3 .left),
+    )
+    (c .decode-words .ensures ∙ ap decodeWords (words .read-words .ensures))
 
 pub decode-spec : {M : Type 1} → statement M
 decode-spec =
     tie.close
     (tie.spec
-    (λ c. search needs)
-    (λ c. search needs)
     returns
     (λ c. search needs)
+    returns-2
+    (λ c. search needs)
+    (λ c. search needs)
+    returns-3
+    (λ c. search needs)
     (λ c κs. search needs)
     (λ c κs. search needs)
-    returns-2)
+    returns-4)

@@ -130,7 +130,7 @@ pub fn ties(cases: &mut Collection, random: &mut Random) {
 }
 
 /// The chosen fraction and the least covered one.
-fn fractions(request: &Request) -> Option<(u64, u64)> {
+pub fn fractions(request: &Request) -> Option<(u64, u64)> {
     let accepted = accepted(request)?;
     let plant = request.decoded().ok()?.plant;
     let covered = (200..=500)

@@ -41,7 +41,7 @@ pub fn plant_ranges(cases: &mut Collection) {
             cases.examine("plant past edge", plant.with(place, least - 1));
         }
     }
-    for place in [LOAD, FLOW, SITE_DEPTH] {
+    for place in [LOAD, FLOW, SITE_DEPTH, DOSE] {
         cases.examine("plant past edge", roomy().with(place, u32::MAX));
     }
 }
@@ -77,11 +77,14 @@ pub fn grid(cases: &mut Collection) {
 
 /// Wrong versions and unknown kinds.
 pub fn malformed(cases: &mut Collection) {
-    for version in [0, 2, 256, 0x0100_0000] {
+    for version in [0, EARLIER_VERSION, LATER_VERSION, 256, 0x0100_0000] {
         cases.examine("wrong version", case_a().with(VERSION, version));
     }
-    cases.choose("wrong version", case_a().with(VERSION, 2));
-    cases.examine("wrong version", case_a().with(VERSION, 3).with(PROCESS, 5));
+    for version in [EARLIER_VERSION, LATER_VERSION] {
+        cases.choose("wrong version", case_a().with(VERSION, version));
+    }
+    let later = case_a().with(VERSION, LATER_VERSION);
+    cases.examine("wrong version", later.with(PROCESS, 5));
     for (place, last) in KIND_WORDS {
         cases.examine("unknown kind", case_a().with(place, last + 1));
         if place % 4 == 3 {

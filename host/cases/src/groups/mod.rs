@@ -2,6 +2,7 @@
 
 mod choices;
 mod degrees;
+mod dose;
 mod edges;
 mod kinds;
 mod nitrate;
@@ -43,5 +44,10 @@ pub fn all() -> Collection {
     kinds::combinations(&mut cases);
     pages::lengths(&mut cases);
     choices::plain(&mut cases, &mut random);
+    dose::order(&mut cases);
+    dose::cover(&mut cases, &mut random);
+    dose::saved_oxygen(&mut cases);
+    dose::designs(&mut cases, &mut random);
+    dose::lower_fractions(&mut cases, &mut random);
     cases
 }

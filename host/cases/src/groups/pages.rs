@@ -37,7 +37,7 @@ pub fn lengths(cases: &mut Collection) {
         cases.on_page("page one byte short", operation, request, exact - 1);
         cases.on_page("empty page", operation, request, 0);
     }
-    let wrong = case_a().with(VERSION, 2);
+    let wrong = case_a().with(VERSION, LATER_VERSION);
     cases.on_page("malformed, empty page", Operation::Examine, wrong, 0);
     let unknown = case_a().with(REMOVAL, 3);
     cases.on_page("malformed, empty page", Operation::Choose, unknown, 0);

@@ -24,7 +24,7 @@ fn chosen(request: &Request) -> u32 {
 }
 
 /// For each tank flow and process three plants with a design and one
-/// without, each with a candidate.
+/// without, each with a candidate; none has a dose.
 fn benchmark_plants() -> Vec<Request> {
     let mut random = Random::new(6_000);
     let mut found = Vec::new();
@@ -49,6 +49,12 @@ fn benchmark_plants() -> Vec<Request> {
         }
     }
     found
+}
+
+/// The same plants with a dose that removes 10 mg/l of nitrate.
+fn dosed(plants: &[Request]) -> Vec<Request> {
+    let dosed = |plant: &Request| plant.with(DOSE, 50_000);
+    plants.iter().map(dosed).collect()
 }
 
 /// Runs over all requests until the least time has passed: calls per second.
@@ -203,6 +209,7 @@ fn main() {
     );
     let with_design = |plant: &Request| chosen(plant) == SHEET;
     choices("choose, all", &plants, |_| true);
+    choices("choose, all with a dose", &dosed(&plants), |_| true);
     choices("choose, horizontal flow", &plants, |plant| {
         plant.get(TANK_FLOW) == 0
     });

@@ -22,6 +22,7 @@ pub fn plant_a() -> Plant {
         tank_flow: TankFlow::Horizontal,
         removal: Removal::Scraper,
         primary_settling: PrimarySettling::None,
+        dose: 0,
     }
 }
 

@@ -52,7 +52,7 @@ fn uptake_rounded_down_for_capacity() {
         examine(&plant, &readings, candidate(304, 75, 20)).number()
     };
     // D is 17,400: 87 x 200.
-    assert!(nitrogen::is_covered(87, 200_000, 17_400));
+    assert!(nitrogen::is_covered(87, 200_000, 0, 17_400));
     assert_eq!(with_nitrogen(37.4), 7);
     // D is 17,200: 86 x 200.
     assert_eq!(with_nitrogen(37.2), 0);

@@ -23,24 +23,31 @@ fn largest_plant() -> Plant {
         tank_flow: TankFlow::Vertical,
         removal: Removal::Hopper,
         primary_settling: PrimarySettling::None,
+        dose: 0,
     }
 }
 
 #[test]
 fn largest_loads() {
     let readings = measured([2_000.0, 4_400.0, 2_000.0, 350.0, 100.0]);
-    let mut permitted = 0;
-    for fraction in [200, 499, 500] {
-        for ratio in [30, 75, 79, 99, 100] {
-            for time in [20, 25] {
-                let place = candidate(fraction, ratio, time);
-                let answer = examine(&largest_plant(), &readings, place);
-                permitted += u32::from(answer.number() == 0);
+    for dose in [0, 500_000] {
+        let plant = Plant {
+            dose,
+            ..largest_plant()
+        };
+        let mut permitted = 0;
+        for fraction in [200, 499, 500] {
+            for ratio in [30, 75, 79, 99, 100] {
+                for time in [20, 25] {
+                    let place = candidate(fraction, ratio, time);
+                    let answer = examine(&plant, &readings, place);
+                    permitted += u32::from(answer.number() == 0);
+                }
             }
         }
+        assert!(permitted > 0);
+        assert_eq!(choose(&plant, &readings).number(), 0);
     }
-    assert!(permitted > 0);
-    assert_eq!(choose(&largest_plant(), &readings).number(), 0);
 }
 
 #[test]

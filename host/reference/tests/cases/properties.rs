@@ -39,6 +39,8 @@ fn plant(generator: &mut Generator) -> Plant {
     plant.oxygen_saturation = generator.within(6_000, 15_000);
     plant.site_surface = generator.within(1, 100_000);
     plant.site_depth = generator.within(3_000, 10_000);
+    let dose = generator.within(0, 500_000);
+    plant.dose = generator.pick(&[0, dose]);
     plant
 }
 

@@ -5,7 +5,7 @@ use reference::*;
 
 type Field = fn(&mut Plant) -> &mut u32;
 
-const FIELDS: [(Field, u32, u32); 13] = [
+const FIELDS: [(Field, u32, u32); 14] = [
     (|plant| &mut plant.bod_load, 1, 100_000),
     (|plant| &mut plant.daily_flow, 1, 200_000),
     (|plant| &mut plant.wet_weather_flow, 1, 50_000),
@@ -19,6 +19,7 @@ const FIELDS: [(Field, u32, u32); 13] = [
     (|plant| &mut plant.oxygen_saturation, 6_000, 15_000),
     (|plant| &mut plant.site_surface, 1, 100_000),
     (|plant| &mut plant.site_depth, 3_000, 10_000),
+    (|plant| &mut plant.dose, 0, 500_000),
 ];
 
 fn refusal_of(plant: &Plant) -> Option<u8> {

@@ -10,4 +10,4 @@ unfolding covered
 returns c = refl
 
 pub covered-spec : {M : Type 1} → statement M
-covered-spec = tie.close (tie.spec (λ c. search needs) returns)
+covered-spec = tie.close (tie.spec (λ c. search needs) (λ c. search needs) (λ c. search needs) returns)

@@ -1,0 +1,108 @@
+-- A larger dose never loses a permitted candidate, and a choice with it is never larger; of a sheet it moves oxygen and
+-- transfer alone. Assumes nothing.
+use mathlib.Core.Path.{_≡_, refl, ap, sym, subst, _∙_}
+use mathlib.Core.Bool.{true}
+use Prim.Native.Nat.{ℕ, _+_, _*_, _≤_}
+use native.Mathlib.Omega.{arith}
+use lib.Dec.{T, leb, leb→le, le→leb}
+use lib.Ieee.Fits.{and-i, and-l, and-r}
+use lib.ListN.{take}
+use Rattle.rules.specs.Rounding.{down}
+use Rattle.rules.specs.Limits.{mostDose}
+use Rattle.rules.specs.Rules.{allKept}
+use Rattle.rules.specs.PlantData.{within, allWithin, figuresWithoutDose, plantInRange}
+use Rattle.rules.specs.Accepting.{valuesOf, readingsRules, dataRules, accept}
+use Rattle.rules.specs.AgeNitrate.{removedByDose, covered}
+use Rattle.rules.specs.ReactorSteps.{sludgeProduction, reactorOf}
+use Rattle.rules.specs.SettlingSteps.{settlingOf}
+use Rattle.rules.specs.AerationSteps.{aerationSaving, aerationOf}
+use Rattle.rules.specs.Examining.{totalOf, sheetFrom, sheetOf, permitted}
+use Rattle.rules.specs.Answers.{sheetFigures}
+use Rattle.rules.specs.Choosing.{candidateTotal, ChosenAccepted, Chosen}
+use Rattle.rules.specs.WithoutDose.{withDose}
+use Rattle.rules.specs.declared.Plant.{Plant}
+use Rattle.rules.specs.declared.Readings.{Readings}
+use Rattle.rules.specs.declared.Concentrations.{Concentrations}
+use Rattle.rules.specs.declared.Candidate.{Candidate}
+use Rattle.rules.specs.declared.Sheet.{Sheet}
+use Rattle.rules.specs.declared.Acceptance.{Acceptance}
+use Rattle.rules.specs.declared.Answer.{Answer}
+use Rattle.rules.proofs.Tests.{within-between}
+use Rattle.rules.proofs.AcceptedData.{accepted-none-due, none-due-accepted}
+use Rattle.rules.proofs.Examined.{permitted-keeps}
+use Rattle.rules.proofs.NitrateColumns.{fraction-covered}
+use Rattle.rules.proofs.WiderChoice.{DesignAtMost, wider-choice}
+use Rattle.rules.proofs.NoDose.{in-range-with-dose}
+
+-- a larger dose covers what a smaller one covers
+pub larger-covers :
+    (removes m n d : ℕ) → m ≤ n → T (covered removes (removedByDose m) d) → T (covered removes (removedByDose n) d)
+unfolding covered removedByDose
+larger-covers removes m n d h t =
+    let c : 1000 * d ≤ removes + 1000 * down m 5 = leb→le (1000 * d) (removes + 1000 * down m 5) t in
+    le→leb (1000 * d) (removes + 1000 * down n 5) (omega arith)
+
+-- A larger dose never loses a permitted candidate.
+pub larger-dose :
+    (p : Plant) (x : Concentrations) (y : Candidate) (m n : ℕ)
+    → m ≤ n
+    → T (permitted (withDose m p) x y)
+    → T (permitted (withDose n p) x y)
+unfolding withDose reactorOf settlingOf
+larger-dose p x y m n h t =
+    let k = permitted-keeps (withDose m p) x y .0 t in
+    let reactor = reactorOf p x (y .fraction) in
+    permitted-keeps (withDose n p) x y .1
+    (record {
+      grid = k .grid;
+      fraction =
+          and-i (covered (reactor .removes) (removedByDose n) (reactor .denitrified)) true
+          (larger-covers (reactor .removes) m n (reactor .denitrified) h (fraction-covered (withDose m p) x (y .fraction) (k .fraction)))
+          tt;
+      tank = k .tank;
+    })
+
+-- the first thirteen figures of a sheet, up to recirculation, do not know the dose: oxygen and transfer alone do
+pub sheet-but-oxygen :
+    (p : Plant) (x : Concentrations) (y : Candidate) (n : ℕ)
+    → take 13 (sheetFigures (sheetOf (withDose n p) x y)) ≡ take 13 (sheetFigures (sheetOf p x y))
+unfolding withDose sheetFigures sheetOf sheetFrom totalOf reactorOf sludgeProduction settlingOf aerationOf aerationSaving
+sheet-but-oxygen p x y n = refl
+
+-- the total does not know the dose
+same-total : (p : Plant) (x : Concentrations) (y : Candidate) (n : ℕ) → candidateTotal (withDose n p) x y ≡ candidateTotal p x y
+unfolding withDose candidateTotal totalOf reactorOf sludgeProduction settlingOf
+same-total p x y n = refl
+
+accepted-with : (p : Plant) (r : Readings) (x : Concentrations) (m n : ℕ) → n ≤ mostDose → accept (withDose m p) r ≡ Acceptance.Accepted x → accept (withDose n p) r ≡ Acceptance.Accepted x
+unfolding withDose dataRules figuresWithoutDose valuesOf
+accepted-with p r x m n h e =
+    let given = accepted-none-due (withDose m p) r x e in
+    let plant = subst T (in-range-with-dose (withDose m p)) (and-l (plantInRange (withDose m p)) (allKept (readingsRules p r)) (given .0)) in
+    let figures = and-l (allWithin (figuresWithoutDose p)) (within 0 mostDose m) plant in
+    let dosed = subst T (sym (in-range-with-dose (withDose n p))) (and-i (allWithin (figuresWithoutDose p)) (within 0 mostDose n) figures (within-between 0 mostDose n .1 (record { least = omega arith; most = h }))) in
+    none-due-accepted (withDose n p) r
+    (and-i (plantInRange (withDose n p)) (allKept (readingsRules p r)) dosed (and-r (plantInRange (withDose m p)) (allKept (readingsRules p r)) (given .0)))
+    ∙ ap Acceptance.Accepted (given .1)
+
+-- Where there is a design with a dose, there is one with every larger dose up to the largest, and no larger.
+pub larger-dose-choice :
+    (p : Plant) (r : Readings) (m n : ℕ) (s : Sheet) (a : Answer)
+    → m ≤ n
+    → n ≤ mostDose
+    → Chosen (withDose m p) r (Answer.Designed s)
+    → Chosen (withDose n p) r a
+    → DesignAtMost (s .total) a
+larger-dose-choice p r m n s a h k c d = go (accept (withDose m p) r) refl c
+  where
+    go :
+        (o : Acceptance) → accept (withDose m p) r ≡ o → ChosenAccepted (withDose m p) (Answer.Designed s) o → DesignAtMost (s .total) a
+    go (Acceptance.Refused i) q e = absurd (let z : _≡_ {A = ℕ} 0 1 = cc in omega arith)
+    go (Acceptance.Accepted x) q l =
+        wider-choice (withDose m p) (withDose n p) x s a
+        (record {
+          permits = λ y t. larger-dose p x y m n h t;
+          total = λ y. let e = same-total p x y m in let f = same-total p x y n in omega arith;
+        })
+        l
+        (subst (λ (o : Acceptance). ChosenAccepted (withDose n p) a o) (accepted-with p r x m n k q) d)
