@@ -11,7 +11,7 @@ use Rattle.rules.specs.Rules.{verdict}
 use Rattle.rules.specs.Limits.{leastFraction, leastRatio, leastTime}
 use Rattle.rules.specs.AgeNitrate.{onGrid}
 use Rattle.rules.specs.ReactorSteps.{reactorOf, reactorSolids, reactorVolume}
-use Rattle.rules.specs.SettlingSteps.{settlingOf}
+use Rattle.rules.specs.SettlingSteps.{thickeningRoot, bottomSludge, settlingOf}
 use Rattle.rules.specs.Ranges.{Between, GridTime}
 use Rattle.rules.specs.Examining.{fractionRules, tankRules, permitted}
 use Rattle.rules.specs.Choosing.{Candidates, candidateTotal}
@@ -69,6 +69,11 @@ tankOf p r h =
 -- the place of a return ratio and a thickening time in the table
 abbrev pub tankIndex : ℕ → ℕ → ℕ
 tankIndex r h = (r - leastRatio) * 6 + (h - leastTime)
+
+-- the list holds the bottom sludge of each thickening time
+pub record Settled (index : ℕ) (bottoms : List ℕ) : Type 0 where
+  pub size : length bottoms ≡ 6
+  pub holds : (h : ℕ) → GridTime h → getD bottoms (h - leastTime) 0 ≡ bottomSludge (thickeningRoot h) index
 
 -- the table holds every tank with a return ratio up to the last
 pub record Filled (p : Plant) (last : ℕ) (table : List Tank) : Type 0 where

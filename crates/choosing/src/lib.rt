@@ -12,10 +12,10 @@ ghost use mathlib.Core.Path.{_≡_};
 ghost use Prim.Native.Nat.{_≤_, _<_};
 ghost use Rattle.rules.specs.SettlingSteps.{thickeningRoot, bottomSludge};
 ghost use Rattle.rules.specs.Limits.{mostFraction, mostRatio, mostTime, mostMass, mostReactorSolids, mostSettlingVolume};
-ghost use Rattle.rules.specs.Ranges.{GridFraction, GridRatio, GridTime, PlantRanges, ConcentrationRanges};
+ghost use Rattle.rules.specs.Ranges.{Between, GridFraction, GridRatio, GridTime, PlantRanges, ConcentrationRanges};
 ghost use Rattle.rules.specs.Choosing.{grid, ChosenAmong, Chosen};
 ghost use Rattle.rules.specs.TwoColumns.{TwoColumns};
-ghost use Rattle.choosing.specs.Keys.{noneYet, keyCandidate, keptMass, tankOf, tankIndex, improvedKey, LeastKey, Filled};
+ghost use Rattle.choosing.specs.Keys.{noneYet, keyCandidate, keptMass, tankOf, tankIndex, improvedKey, LeastKey, Settled, Filled};
 
 // What the sweep's table holds of one settling tank.
 pub struct Tank {
@@ -68,18 +68,29 @@ fn tank_index(return_ratio: u32, thickening: u32) -> usize
     ((return_ratio - rules::LEAST_RATIO) * 6 + (thickening - rules::LEAST_TIME)) as usize
 }
 
+// The bottom sludge of each thickening time: the only roots that a choice finds.
+fn bottoms(index: u32) -> [u64; 6]
+    requires { ⌜ Between 50 200 index ⌝ }
+    ensures { λ r. ⌜ Settled index r ⌝ }
+{
+    let mut bottoms = [0u64; 6];
+    'time: for h in rules::LEAST_TIME..rules::MOST_TIME + 1 {
+        bottoms[(h - rules::LEAST_TIME) as usize] = settling::bottom_sludge(index, h);
+    }
+    bottoms
+}
+
 // The table of the settling tanks with return ratios up to the last, filled once.
-fn tanks(plant: Plant, last: u32) -> [Tank; 426]
-    requires { ⌜ PlantRanges plant × GridRatio last ⌝ }
+fn tanks(plant: Plant, last: u32, bottoms: [u64; 6]) -> [Tank; 426]
+    requires { ⌜ PlantRanges plant × GridRatio last × Settled (plant .«sludge_volume_index») bottoms ⌝ }
     ensures { λ r. ⌜ Filled plant last r ⌝ }
 {
-    let index = plant.sludge_volume_index;
     let mut table = [Tank {
         solids: 0,
         volume: 0,
     }; 426];
     'time: for h in rules::LEAST_TIME..=rules::MOST_TIME {
-        let bottom = settling::bottom_sludge(index, h);
+        let bottom = bottoms[(h - rules::LEAST_TIME) as usize];
         'ratio: for r in rules::LEAST_RATIO..=last {
             table[tank_index(r, h)] = tank_entry(plant, r, h, bottom);
         }
@@ -102,13 +113,13 @@ fn improved(best: u64, mass: u64, tank: Tank, f: u32, r: u32, h: u32) -> u64
 
 // The least key over the whole grid, or NONE_YET where nothing is permitted. A fraction that is not covered, or that is
 // no lighter than a covered one before it, is left at its label.
-fn sweep(plant: Plant, concentrations: Concentrations) -> u64
-    requires { ⌜ PlantRanges plant × ConcentrationRanges concentrations ⌝ }
+fn sweep(plant: Plant, concentrations: Concentrations, bottoms: [u64; 6]) -> u64
+    requires { ⌜ PlantRanges plant × ConcentrationRanges concentrations × Settled (plant .«sludge_volume_index») bottoms ⌝ }
     ensures { λ r. ⌜ LeastKey plant concentrations (grid plant) r ⌝ }
 {
     let flow = plant.tank;
     let last = examining::largest_return_ratio(flow);
-    let table = tanks(plant, last);
+    let table = tanks(plant, last, bottoms);
     let mut best = NONE_YET;
     let mut lightest = NONE_YET;
     'fraction: for f in rules::LEAST_FRACTION..=rules::MOST_FRACTION {
@@ -144,12 +155,15 @@ pub fn choose_accepted(plant: Plant, concentrations: Concentrations) -> Answer
     requires { ⌜ PlantRanges plant × ConcentrationRanges concentrations ⌝ }
     ensures { λ r. ⌜ ChosenAmong plant concentrations (grid plant) r ⌝ }
 {
-    let best = sweep(plant, concentrations);
+    let bottoms = bottoms(plant.sludge_volume_index);
+    let best = sweep(plant, concentrations, bottoms);
     if best == NONE_YET {
-        Answer::Refused(Refusal::NoDesign)
-    } else {
-        examining::judge(plant, concentrations, key_candidate(best))
+        return Answer::Refused(Refusal::NoDesign);
     }
+    let candidate = key_candidate(best);
+    let bottom = bottoms[(candidate.thickening - rules::LEAST_TIME) as usize];
+    let reactor = reactor::reactor(plant, concentrations, candidate.fraction);
+    examining::judge_tank(plant, concentrations, candidate, reactor, bottom)
 }
 
 // What choosing answers for any plant data and lab readings.

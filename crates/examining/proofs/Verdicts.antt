@@ -2,13 +2,15 @@
 use mathlib.Core.Path.{_≡_, ap, sym, _∙_}
 use mathlib.Core.Bool.{true, false}
 use mathlib.Core.List.{_++_}
+use lib.Dec.{T}
 use Rattle.rules.specs.Rules.{verdict, after}
 use Rattle.rules.specs.AgeNitrate.{onGrid}
 use Rattle.rules.specs.ReactorSteps.{reactorOf}
 use Rattle.rules.specs.SettlingSteps.{settlingOf}
 use Rattle.rules.specs.AerationSteps.{aerationOf}
-use Rattle.rules.specs.Examining.{fractionRules, tankRules, candidateRules, answerBy, judge, sheetOf, sheetFrom}
-use Rattle.rules.proofs.RuleLists.{verdict-append}
+use Rattle.rules.specs.Examining.{fractionRules, tankRules, candidateRules, permitted, answerBy, judge, sheetOf, sheetFrom}
+use Rattle.rules.proofs.RuleLists.{all-kept-verdict, verdict-append}
+use Rattle.rules.proofs.Examined.{permitted-keeps}
 use Rattle.examining.specs.Stages.{judgeTank}
 use Rattle.rules.specs.declared.Plant.{Plant}
 use Rattle.rules.specs.declared.Concentrations.{Concentrations}
@@ -42,6 +44,11 @@ module _ (p : Plant) (x : Concentrations) (y : Candidate) where
     pub to-the-tank : verdict (fractionRules r) ≡ Verdict.Kept → judgeTank p x y ≡ judge p x y
     unfolding judgeTank
     to-the-tank e = sym (decided ∙ rw e)
+
+  -- a permitted candidate gets its sheet from its tank's verdict
+  pub permitted-by-tank : T (permitted p x y) → judgeTank p x y ≡ Answer.Designed (sheetOf p x y)
+  unfolding judgeTank answerBy
+  permitted-by-tank t = rw (all-kept-verdict (tankRules p settled) .0 (permitted-keeps p x y .0 t .tank))
 
   module _ (s : Settling) (es : s ≡ settled) where
     pub tank-broken : (n : Refusal) → verdict (tankRules p s) ≡ Verdict.Broken n → Answer.Refused n ≡ judgeTank p x y

@@ -15,6 +15,7 @@ use rules::Verdict;
 ghost use mathlib.Core.Path.{_≡_};
 ghost use Rattle.rules.specs.AgeNitrate.{largestReturnRatio, onGrid};
 ghost use Rattle.rules.specs.Limits.{mostRatio};
+ghost use Rattle.rules.specs.SettlingSteps.{thickeningRoot, bottomSludge};
 ghost use Rattle.rules.specs.Ranges.{Between, OnGrid, PlantRanges, ConcentrationRanges, ReactorBounds, SettlingBounds};
 ghost use Rattle.rules.specs.Examining.{sheetFrom, judge, examine};
 ghost use Rattle.examining.specs.Stages.{StagesOf, ReactorAt, judgeTank};
@@ -105,19 +106,21 @@ fn sheet_from(
     }
 }
 
-// A candidate on the grid whose fraction keeps its rules: the tank's verdict, else its sheet.
-fn judge_tank(
+// A candidate on the grid whose fraction keeps its rules, from the bottom sludge of its thickening time: the tank's verdict,
+// else its sheet.
+pub fn judge_tank(
     plant: Plant,
     concentrations: Concentrations,
     candidate: Candidate,
     reactor: Reactor,
+    bottom: u64,
 ) -> Answer
     requires { ⌜ PlantRanges plant × ConcentrationRanges concentrations × OnGrid candidate × ReactorAt plant concentrations candidate reactor ⌝ }
+    requires { ⌜ bottom ≡ bottomSludge (thickeningRoot (candidate .thickening)) (plant .«sludge_volume_index») ⌝ }
     ensures { λ r. ⌜ r ≡ judgeTank plant concentrations candidate ⌝ }
 {
     let ratio = candidate.return_ratio;
     let time = candidate.thickening;
-    let bottom = settling::bottom_sludge(plant.sludge_volume_index, time);
     let settling = settling::settling(plant, ratio, time, bottom);
     match settling::tank_verdict(plant, settling) {
         Verdict::Broken(refusal) => Answer::Refused(refusal),
@@ -141,7 +144,10 @@ pub fn judge(plant: Plant, concentrations: Concentrations, candidate: Candidate)
     let reactor = reactor::reactor(plant, concentrations, candidate.fraction);
     match reactor::fraction_verdict(reactor) {
         Verdict::Broken(refusal) => Answer::Refused(refusal),
-        Verdict::Kept => judge_tank(plant, concentrations, candidate, reactor),
+        Verdict::Kept => {
+            let bottom = settling::bottom_sludge(plant.sludge_volume_index, candidate.thickening);
+            judge_tank(plant, concentrations, candidate, reactor, bottom)
+        }
     }
 }
 

@@ -2,3 +2,4 @@
 pub mod Limits
 pub mod Bounds
 pub mod Refuted
+pub mod RootSpan

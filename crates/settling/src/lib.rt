@@ -14,18 +14,26 @@ use rules::Settling;
 use rules::TankFlow;
 use rules::Verdict;
 
-// The largest whole number whose cube is at most n, for a root below 16,384.
+// The largest whole number whose cube is at most n, for a root below 16,384. It is at least `low` and below `high`; this span
+// of 2 to the 14th possible roots is halved 14 times, until one is left.
 fn cube_root(n: u64) -> u64
     requires { ⌜ n < 16_384 * 16_384 * 16_384 ⌝ }
     ensures { λ r. ⌜ r ≡ cubeRoot n ⌝ }
 {
-    let mut c = 0;
-    'search: loop {
-        let next = c + 1;
-        if n < next * next * next {
-            break c;
+    let mut low = 0;
+    let mut high = 16_384;
+    let mut left: u32 = 14;
+    'halving: loop {
+        if left == 0 {
+            break low;
         }
-        c = next;
+        left -= 1;
+        let middle = (low + high) / 2;
+        if n < middle * middle * middle {
+            high = middle;
+        } else {
+            low = middle;
+        }
     }
 }
 

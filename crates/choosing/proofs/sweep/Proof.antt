@@ -44,7 +44,7 @@ abbrev μ-fraction : tie.MeasureT-fraction
 μ-fraction plant concentrations last table best₀ lightest₀ f₀ best lightest f = mostFraction + 1 - f
 
 tanks-requires : tie.Need-tanks-requires Inv-time μ-time Inv-ratio μ-ratio Inv-fraction μ-fraction
-tanks-requires c κs = (c .before .pre .0, omega arith)
+tanks-requires c κs = (c .before .pre .0, omega arith, c .before .pre .2)
 
 fraction-holds : tie.Need-fraction-holds Inv-time μ-time Inv-ratio μ-ratio Inv-fraction μ-fraction
 fraction-holds c =

@@ -13,23 +13,24 @@ use Rattle.choosing.proofs.tanks.Statement.{statement}
 use Rattle.choosing.proofs.tanks.Tie as tie
 
 abbrev Inv-ratio : tie.InvT-ratio
-Inv-ratio plant last index table₀ h bottom r₀ table r = Between leastRatio (last + 1) r × FilledTo plant last (turn r h) table
+Inv-ratio plant last bottoms table₀ h bottom r₀ table r = Between leastRatio (last + 1) r × FilledTo plant last (turn r h) table
 
 abbrev μ-ratio : tie.MeasureT-ratio
-μ-ratio plant last index table₀ h bottom r₀ table r = last + 1 - r
+μ-ratio plant last bottoms table₀ h bottom r₀ table r = last + 1 - r
 
 abbrev Inv-time : tie.InvT-time
-Inv-time plant last index table₀ h₀ table h = Between leastTime (mostTime + 1) h × FilledTo plant last (turn leastRatio h) table
+Inv-time plant last bottoms table₀ h₀ table h = Between leastTime (mostTime + 1) h × FilledTo plant last (turn leastRatio h) table
 
 abbrev μ-time : tie.MeasureT-time
-μ-time plant last index table₀ h₀ table h = mostTime + 1 - h
+μ-time plant last bottoms table₀ h₀ table h = mostTime + 1 - h
 
 time-holds : tie.Need-time-holds Inv-ratio μ-ratio Inv-time μ-time
 time-holds c = (omega arith, empty (c .args .plant) (c .args .last) (c .pre .1) _ refl)
 
 tank-entry-requires : tie.Need-tank-entry-requires Inv-ratio μ-ratio Inv-time μ-time
 tank-entry-requires c κs =
-    ((c .before .before .before .before .before .pre .0, omega arith, omega arith), c .before .before .bottom-sludge .ensures .0)
+    let time = c .before .before .before in
+    ((time .before .pre .0, omega arith, omega arith), time .before .pre .2 .holds (time .time .h) (omega arith))
 
 array-set-from-table : tie.Need-array-set-from-table Inv-ratio μ-ratio Inv-time μ-time
 array-set-from-table c = c .tank-index .ensures .1
@@ -37,15 +38,15 @@ array-set-from-table c = c .tank-index .ensures .1
 -- the present tank is in the table
 stored :
     (c : tie.After-tank-index Inv-ratio μ-ratio Inv-time μ-time) →
-    FilledTo (c .before .before .before .before .before .before .before .args .plant)
-    (c .before .before .before .before .before .before .before .args .last)
-    (turn (c .before .before .before .ratio .r + 1) (c .before .before .before .before .before .before .time .h))
+    FilledTo (c .before .before .before .before .before .before .args .plant)
+    (c .before .before .before .before .before .before .args .last)
+    (turn (c .before .before .before .ratio .r + 1) (c .before .before .before .before .before .time .h))
     (set (c .before .before .before .ratio .table) (c .tank-index .result) (c .before .tank-entry .result))
 stored c =
     let head = c .before .before .before in
-    let start = head .before .before .before .before in
+    let start = head .before .before .before in
     rw (c .tank-index .ensures .0)
-    (entered (start .args .plant) (start .args .last) (start .pre .1) (head .ratio .r) (head .before .before .before .time .h)
+    (entered (start .args .plant) (start .args .last) (start .pre .1) (head .ratio .r) (head .before .before .time .h)
     (head .ratio .table) (c .before .tank-entry .result) (omega arith) (omega arith) (c .before .tank-entry .ensures) (head .ratio .inv .1))
 
 ratio-again : tie.Need-ratio-again Inv-ratio μ-ratio Inv-time μ-time
@@ -54,8 +55,8 @@ ratio-again c = (omega arith, stored (c .before))
 time-again : tie.Need-time-again Inv-ratio μ-ratio Inv-time μ-time
 time-again c =
     let head = c .before in
-    let start = head .before .before .before .before in
-    let h = head .before .before .before .time .h in
+    let start = head .before .before .before in
+    let h = head .before .before .time .h in
     let plant = start .args .plant in
     let last = start .args .last in (
       omega arith,
@@ -88,7 +89,10 @@ tanks-spec =
     Inv-time
     μ-time
     time-holds
-    (λ c κs. search needs)
+    (λ c. search needs)
+    (λ c. search needs)
+    (λ c. search needs)
+    (λ c. omega arith)
     (λ c. search needs)
     tank-entry-requires
     (λ c κs. search needs)

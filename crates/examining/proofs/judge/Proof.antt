@@ -30,9 +30,16 @@ reactor-requires c κs = (c .before .before .pre .0, c .before .before .pre .1, 
 
 judge-tank-requires : tie.Need-judge-tank-requires
 judge-tank-requires c κs =
+    let reacted = c .before .before .before .before in
+    let start = reacted .before .before .before in (
+      (start .pre .0, start .pre .1, inside (reacted .before), record { value = reacted .reactor .ensures .0; bounds = reacted .reactor .ensures .1 }),
+      c .bottom-sludge .ensures .0,
+    )
+
+bottom-sludge-requires : tie.Need-bottom-sludge-requires
+bottom-sludge-requires c κs =
     let reacted = c .before .before .before in
-    let start = reacted .before .before .before in
-    (start .pre .0, start .pre .1, inside (reacted .before), record { value = reacted .reactor .ensures .0; bounds = reacted .reactor .ensures .1 })
+    (reacted .before .before .before .pre .0 .index, inside (reacted .before) .time)
 
 returns-2 : tie.Need-returns-2
 returns-2 c =
@@ -46,7 +53,7 @@ returns-2 c =
 
 returns-3 : tie.Need-returns-3
 returns-3 c =
-    let told = c .before in
+    let told = c .before .before in
     let judged = told .before .before in
     let reacted = judged .before in
     let start = reacted .before .before .before in
@@ -65,6 +72,7 @@ judge-spec =
     (λ c κs. search needs)
     (λ c. search needs)
     (λ c. search needs)
+    bottom-sludge-requires
     judge-tank-requires
     returns-2
     returns-3)

@@ -9,7 +9,7 @@ returns : tie.Need-returns
 returns c =
     let judged = c .before .before .before in
     let settled = judged .before in
-    let start = settled .before .before in
+    let start = settled .before in
     tank-broken (start .args .plant) (start .args .concentrations) (start .args .candidate) (settled .settling .result)
     (settled .settling .ensures .0)
     (c .before .refusal .given .0 .0)
@@ -20,12 +20,12 @@ returns-2 c =
     let told = c .before .before in
     let judged = told .before .before in
     let settled = judged .before in
-    let start = settled .before .before in
+    let start = settled .before in
     kept (start .args .plant) (start .args .concentrations) (start .args .candidate) (settled .settling .result)
     (settled .settling .ensures .0)
     (sym (judged .tank-verdict .ensures) ∙ told .enum-told .given .1)
     (start .args .reactor) (c .before .aeration .result) (c .sheet-from .result)
-    (start .pre .3 .value)
+    (start .pre .0 .3 .value)
     (c .before .aeration .ensures)
     (c .sheet-from .ensures)
 
@@ -33,7 +33,6 @@ pub judge-tank-spec : {M : Type 1} → statement M
 judge-tank-spec =
     tie.close
     (tie.spec
-    (λ c κs. search needs)
     (λ c κs. search needs)
     (λ c κs. search needs)
     (λ c. search needs)
