@@ -45,6 +45,11 @@ int main(void)
         0, bits(46.0f),       /* nitrogen */
         0, bits(8.0f),        /* phosphorus */
         0,                    /* dose of external carbon */
+        0,                    /* number of terms of the consent */
+        0, 0, 0, 0, 0, 0,     /* four entries for terms, not looked at */
+        0, 0, 0, 0, 0, 0,
+        0, 0, 0, 0, 0, 0,
+        0, 0, 0, 0, 0, 0,
         300, 75, 20           /* fraction, return ratio, thickening time */
     };
     uint8_t request[PEWGULL_EXAMINE_LENGTH];

@@ -1,13 +1,13 @@
 /*
  * Pewgull: dimensioning of single-stage activated sludge plants with nitrogen
- * removal. Five calls, for x86-64 and its C calling convention (System V).
+ * removal. Six calls, for x86-64 and its C calling convention (System V).
  *
  * Each call takes the bytes of a request, or of a day log, writes on a page
  * that the caller lends, stores the number of bytes written in *written, and
  * gives a number. Later bytes of the page stay unchanged. No call allocates
  * memory, keeps anything between calls, or reads or writes anything else:
  * several threads may call at once, each with memory of its own. A choice
- * takes 16 kB of stack, the other calls 2 kB. The archive needs memcpy and
+ * takes 16 kB of stack, the other calls 3 kB. The archive needs memcpy and
  * memset, and nothing more.
  *
  * What the caller sees to
@@ -17,12 +17,12 @@
  *   - The page and *written overlap neither the request or log nor each other.
  *   - No alignment is needed for the request, the log or the page.
  *
- * The request, version 2: 32-bit unsigned numbers, little-endian, no padding.
+ * The request, version 3: 32-bit unsigned numbers, little-endian, no padding.
  * Data outside their ranges are refused with a number; every other number is
  * answered for.
  *
  *   word   bytes      what
- *   0      0..3       version: 2
+ *   0      0..3       version: 3
  *   1      4..7       raw BOD5 load, 1..100000 kg/d
  *   2      8..11      daily flow, 1..200000 m3/d
  *   3      12..15     wet weather flow, 1..50000 m3/h
@@ -49,11 +49,21 @@
  *   27,28  108..115   reading of phosphorus, 0..100 mg/l
  *   29     116..119   dose of external carbon, 0..500000 mg/m3 as COD; 0 where
  *                     nothing is dosed
+ *   30     120..123   number of terms of the consent, 0..4
+ *   31..54 124..219   four entries for terms, of six words each
  *                     A request to choose or for a census ends here.
- *   30     120..123   fraction, 200..500 thousandths
- *   31     124..127   return ratio, 30..75 (vertical flow 30..100) hundredths
- *   32     128..131   thickening time, 20..25 tenths of an hour
+ *   55     220..223   fraction, 200..500 thousandths
+ *   56     224..227   return ratio, 30..75 (vertical flow 30..100) hundredths
+ *   57     228..231   thickening time, 20..25 tenths of an hour
  *                     A request to examine or to explain ends here.
+ *
+ *   A term of the consent, by its six words: month and day of its first day,
+ *   month and day of its last, both included; its lowest temperature, 4..20
+ *   degrees Celsius; its nitrate target, 1000..50000 mg/m3. 29 February is a
+ *   day. A term whose last day comes before its first runs over the new year;
+ *   where they are equal it is one day. Entries past the number of terms are
+ *   not looked at. A candidate is held to its rules in every term, whatever
+ *   the days are.
  *
  *   Kind of a reading and its value: 0 measured, the bits of a binary32 in
  *   mg/l; 1 below a limit, the bits of the limit in mg/l, of which half
@@ -90,18 +100,19 @@ extern "C" {
 #endif
 
 /* Word 0 of a request. */
-#define PEWGULL_VERSION 2
+#define PEWGULL_VERSION 3
 
 /* Lengths of a request, in bytes. */
-#define PEWGULL_CHOOSE_LENGTH 120
-#define PEWGULL_EXAMINE_LENGTH 132
-#define PEWGULL_EXPLAIN_LENGTH 132
+#define PEWGULL_CHOOSE_LENGTH 220
+#define PEWGULL_EXAMINE_LENGTH 232
+#define PEWGULL_EXPLAIN_LENGTH 232
+#define PEWGULL_TARGET_LENGTH 112
 
 /* A page of this length takes every listing. */
 #define PEWGULL_PAGE_LENGTH 512
 
 /* Bytes that pewgull_explain writes, and the least length of its page. */
-#define PEWGULL_FIGURES_LENGTH 72
+#define PEWGULL_FIGURES_LENGTH 232
 
 /* Bytes that pewgull_census writes, and the least length of its page. */
 #define PEWGULL_CENSUS_LENGTH 256
@@ -109,8 +120,11 @@ extern "C" {
 /* Bytes that pewgull_load writes, and the least length of its page. */
 #define PEWGULL_LOAD_PAGE 16
 
+/* Bytes that pewgull_target writes, and the least length of its page. */
+#define PEWGULL_TARGET_PAGE 8
+
 /* Numbers that the calls give. */
-#define PEWGULL_SHEET 0          /* a sheet, figures, counts or a load */
+#define PEWGULL_SHEET 0          /* a sheet, figures, counts, a load or a target */
 #define PEWGULL_PLANT_DATA 1     /* a plant or site figure outside its range */
 #define PEWGULL_NO_NUMBER 2      /* a reading not finite, or below zero */
 #define PEWGULL_READING_RANGE 3  /* a head count or a result outside its range */
@@ -124,16 +138,20 @@ extern "C" {
 #define PEWGULL_SHORT_PAGE 11    /* page too short: nothing written */
 #define PEWGULL_DAY_LOG 12       /* a day log of another count or length */
 #define PEWGULL_DAY_VALUE 13     /* a value of a day not finite, below zero or too large */
+#define PEWGULL_TERMS 14         /* too many terms, or a term or the date asked for not valid */
+#define PEWGULL_NITRIFICATION 15 /* nitrification lost in a term */
+#define PEWGULL_TERM_NITRATE 16  /* the nitrate is not covered in a term */
 #define PEWGULL_BAD_LENGTH 101   /* request of another length: nothing written */
 #define PEWGULL_BAD_VERSION 102  /* request of another version, which is tested first: nothing written */
 #define PEWGULL_BAD_KIND 103     /* an unknown kind in a request: nothing written */
 
 /*
  * Examines the candidate of a request of PEWGULL_EXAMINE_LENGTH bytes.
- * Gives 0 and writes the sheet's listing. Gives 1 to 4 or 6 to 10 and writes
- * "refused ", the number and a newline. Gives 11 or 101 to 103, writes
- * nothing on the page and stores 0 in *written. The listing has no
- * terminating zero byte: its length is *written.
+ * Gives 0 and writes the sheet's listing. Gives the first that is due of 1 to
+ * 4, 14, 6, 7, 15, 16 and 8 to 10, in this order, and writes "refused ", the
+ * number and a newline. Gives 11 or 101 to 103, writes nothing on the page
+ * and stores 0 in *written. The listing has no terminating zero byte: its
+ * length is *written.
  */
 uint32_t pewgull_examine(const uint8_t *request, size_t request_length,
                          uint8_t *page, size_t page_length,
@@ -143,7 +161,7 @@ uint32_t pewgull_examine(const uint8_t *request, size_t request_length,
  * Chooses for a request of PEWGULL_CHOOSE_LENGTH bytes the permitted
  * candidate of least total volume; of several, the one of least fraction,
  * then return ratio, then thickening time. Gives 0 and writes the sheet's
- * listing, or gives 1 to 5 and writes the refusal; the rest as above.
+ * listing, or gives 1 to 4, 14 or 5 and writes the refusal; the rest as above.
  */
 uint32_t pewgull_choose(const uint8_t *request, size_t request_length,
                         uint8_t *page, size_t page_length,
@@ -151,9 +169,9 @@ uint32_t pewgull_choose(const uint8_t *request, size_t request_length,
 
 /*
  * Gives the figures that the candidate of a request of
- * PEWGULL_EXPLAIN_LENGTH bytes is judged by, whatever refusals 7 to 10 say
- * of it. Gives 0 and writes PEWGULL_FIGURES_LENGTH bytes, nine 64-bit
- * unsigned numbers, little-endian:
+ * PEWGULL_EXPLAIN_LENGTH bytes is judged by, whatever refusals 7 to 10, 15
+ * and 16 say of it. Gives 0 and writes PEWGULL_FIGURES_LENGTH bytes, 29
+ * 64-bit unsigned numbers, little-endian:
  *
  *   bytes    what                                   held to
  *   0..7     nitrate to be removed, mg/m3
@@ -165,11 +183,28 @@ uint32_t pewgull_choose(const uint8_t *request, size_t request_length,
  *   40..47   diluted sludge volume, l/m3            at most 600 (8)
  *   48..55   settling surface, m2                   at most the site's (9)
  *   56..63   settling depth, mm                     at most the site's (10)
- *   64..71   the verdict: 0 where all of these are kept, else the number of
- *            the first of 7 to 10 that is broken
+ *   64..71   the verdict: 0 where all of these and the terms' are kept, else
+ *            the number of the first of 7, 15, 16 and 8 to 10 that is broken
  *
- * Gives 1 to 4 or 6 and writes 72 bytes of zeros. Gives 11 for a page of
- * fewer than 72 bytes, or 101 to 103, and writes nothing.
+ * Then five numbers for each of the four entries for terms, from byte 72, 112,
+ * 152 and 192 on; zeros past the number of terms. Of the first term:
+ *
+ *   bytes    what                                   held to
+ *   72..79   aerobic share: the part of the sludge  at most 1,000 in every
+ *            age that nitrification takes in the    term (15)
+ *            term, thousandths
+ *   80..87   fraction in the term, thousandths: the
+ *            smaller of the candidate's and 1,000
+ *            less the share; under 200 the tank's
+ *            BOD removes nothing
+ *   88..95   nitrate to be removed there, mg/m3
+ *   96..103  nitrate removed there by the tank's
+ *            BOD, mg/m3
+ *   104..111 nitrate the tank can remove there,     at least the third
+ *            with what the dose removes, mg/m3      (16)
+ *
+ * Gives 1 to 4, 14 or 6 and writes 232 bytes of zeros. Gives 11 for a page of
+ * fewer than 232 bytes, or 101 to 103, and writes nothing.
  */
 uint32_t pewgull_explain(const uint8_t *request, size_t request_length,
                          uint8_t *page, size_t page_length,
@@ -187,14 +222,16 @@ uint32_t pewgull_explain(const uint8_t *request, size_t request_length,
  *   64..71   refused for solids (8)
  *   72..79   refused for surface (9)
  *   80..87   refused for depth (10)
+ *   120..127 refused for nitrification (15)
+ *   128..135 refused for term nitrate (16)
  *
  * The other counts are 0 today. Each candidate is counted once, at the first
  * rule that it breaks: the counts add up to the grid's size, 83,076 in
  * horizontal and 128,226 in vertical flow. For such a request pewgull_choose
  * gives 5 exactly where the first count is 0.
  *
- * Gives 1 to 4 and writes 256 bytes of zeros. Gives 11 for a page of fewer
- * than 256 bytes, or 101 to 103, and writes nothing.
+ * Gives 1 to 4 or 14 and writes 256 bytes of zeros. Gives 11 for a page of
+ * fewer than 256 bytes, or 101 to 103, and writes nothing.
  */
 uint32_t pewgull_census(const uint8_t *request, size_t request_length,
                         uint8_t *page, size_t page_length,
@@ -229,6 +266,27 @@ uint32_t pewgull_census(const uint8_t *request, size_t request_length,
 uint32_t pewgull_load(const uint8_t *log, size_t log_length,
                       uint8_t *page, size_t page_length,
                       uint64_t *written);
+
+/*
+ * Finds the lowest nitrate target that is in force on a date, for a request of
+ * PEWGULL_TARGET_LENGTH bytes of its own:
+ *
+ *   word   bytes      what
+ *   0      0..3       version: 3
+ *   1      4..7       number of terms, 0..4
+ *   2..25  8..103     four entries for terms, of six words each, as above
+ *   26     104..107   month of the date asked for
+ *   27     108..111   day of the date asked for
+ *
+ * Gives 0 and writes PEWGULL_TARGET_PAGE bytes, a 64-bit unsigned number,
+ * little-endian: the lowest target of the terms that run on that date, mg/m3,
+ * or 0 where none runs. Gives 14 where there are more than four terms, or
+ * where a term or the date is not valid, and writes 8 bytes of zeros. Gives 11
+ * for a page of fewer than 8 bytes, 101 or 102, and writes nothing.
+ */
+uint32_t pewgull_target(const uint8_t *request, size_t request_length,
+                        uint8_t *page, size_t page_length,
+                        uint64_t *written);
 
 #ifdef __cplusplus
 }

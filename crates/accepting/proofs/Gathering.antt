@@ -1,5 +1,5 @@
 -- The five readings converted and gathered are document 01's rules 2 to 4 in order. Assumes nothing.
-use mathlib.Core.Path.{_≡_, refl, _∙_}
+use mathlib.Core.Path.{_≡_, refl, ap, sym, _∙_}
 use mathlib.Core.Bool.{Bool, true, false, cond, not}
 use mathlib.Core.List.{List, [], _∷_, _++_}
 use Prim.Native.Nat.{ℕ, _≤_, zero-le}
@@ -8,18 +8,20 @@ use denote.Floats.{passes}
 use Rattle.rules.specs.Rules.{Rule, rule, verdict, after}
 use Rattle.rules.specs.PlantData.{plantInRange}
 use Rattle.rules.specs.LabReadings.{resultInRange, headsInRange, readingNoNumber, readingInRange, readingValue, codRatioBroken}
-use Rattle.rules.specs.Accepting.{valuesOf, readingRules, readingsRules, dataRules, acceptBy, accept}
+use Rattle.rules.specs.Consent.{consentValid}
+use Rattle.rules.specs.Accepting.{valuesOf, readingRules, readingsRules, termsRule, dataRules, acceptBy, accept}
 use Rattle.rules.specs.declared.Plant.{Plant}
 use Rattle.rules.specs.declared.PrimarySettling.{PrimarySettling}
 use Rattle.rules.specs.declared.Parameter.{Parameter}
 use Rattle.rules.specs.declared.Reading.{Reading}
 use Rattle.rules.specs.declared.Readings.{Readings}
+use Rattle.rules.specs.declared.Concentrations.{Concentrations}
 use Rattle.rules.specs.declared.Refusal.{Refusal}
 use Rattle.rules.specs.declared.Verdict.{Verdict}
 use Rattle.rules.specs.declared.Acceptance.{Acceptance}
 use Rattle.rules.proofs.AcceptedData.{result-most}
 use Rattle.rules.proofs.RuleLists.{verdict-append}
-use Rattle.accepting.specs.Conversion.{valueOf, convert, gather, acceptReadings}
+use Rattle.accepting.specs.Conversion.{valueOf, convert, gather, acceptReadings, thenTerms}
 use Rattle.accepting.specs.declared.Converted.{Converted}
 
 -- what a verdict on 2 and 3 makes of a reading's value
@@ -75,6 +77,13 @@ gather-by-rules Verdict.Kept Verdict.Kept Verdict.Kept Verdict.Kept Verdict.Kept
     go true = refl
     go false = refl
 
+-- 14 after a verdict on the readings
+then-by-rules : (v : Verdict) (x : Concentrations) (b : Bool) → thenTerms (acceptBy v x) b ≡ acceptBy (after v (verdict (rule Refusal.Terms b ∷ []))) x
+unfolding acceptBy
+then-by-rules (Verdict.Broken n) x b = refl
+then-by-rules Verdict.Kept x true = refl
+then-by-rules Verdict.Kept x false = refl
+
 -- six lists are judged in turn
 judged-in-turn :
     (a b c d e f : List Rule)
@@ -120,7 +129,10 @@ module _ (p : Plant) (r : Readings) where
   unfolding accept acceptBy dataRules
   out-of-range e = rw e
 
-  -- 1 is not due: the readings decide
-  pub in-range : plantInRange p ≡ true → acceptReadings (p .flow) (p .«primary_settling») r ≡ accept p r
-  unfolding accept acceptBy dataRules
-  in-range e = gathered ∙ rw e
+  -- 1 is not due: the readings decide, and then the terms
+  pub in-range : plantInRange p ≡ true → thenTerms (acceptReadings (p .flow) (p .«primary_settling») r) (consentValid (p .consent)) ≡ accept p r
+  unfolding accept dataRules
+  in-range e =
+      ap (λ (o : Acceptance). thenTerms o (consentValid (p .consent))) gathered
+      ∙ (then-by-rules (verdict (readingsRules p r)) (valuesOf p r) (consentValid (p .consent))
+      ∙ rw e (ap (λ (v : Verdict). acceptBy v (valuesOf p r)) (sym (verdict-append (readingsRules p r) (termsRule p ∷ [])))))

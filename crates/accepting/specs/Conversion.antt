@@ -1,7 +1,7 @@
 -- The steps of accepting readings, as the code takes them: one reading converted or refused, then the five gathered.
 -- proofs/Conversions.antt and proofs/Gathering.antt prove that they are document 01's rules 2 to 4. Assumes nothing.
 use Prim.Native.Nat.{ℕ}
-use mathlib.Core.Bool.{cond}
+use mathlib.Core.Bool.{Bool, cond}
 use Rattle.rules.specs.LabReadings.{resultInRange, readingNoNumber, readingInRange, readingValue, codRatioBroken}
 use Rattle.rules.specs.declared.PrimarySettling.{PrimarySettling}
 use Rattle.rules.specs.declared.Parameter.{Parameter}
@@ -59,3 +59,8 @@ acceptReadings q s r =
     (convert q s Parameter.Solids (r .solids))
     (convert q s Parameter.Nitrogen (r .nitrogen))
     (convert q s Parameter.Phosphorus (r .phosphorus))
+
+-- 14, once plant data and readings have their answer: a refusal of them stands
+abbrev pub thenTerms : Acceptance → Bool → Acceptance
+thenTerms (Acceptance.Refused n) valid = Acceptance.Refused n
+thenTerms (Acceptance.Accepted x) valid = cond valid (Acceptance.Accepted x) (Acceptance.Refused Refusal.Terms)

@@ -1,4 +1,4 @@
-// Document 01, "Plant data and site" and "Lab readings": plant data and readings accepted, or refused with 1 to 4.
+// Document 01, "Plant data and site" and "Lab readings": plant data and readings accepted, or refused with 1 to 4 or 14.
 use rules::Acceptance;
 use rules::Concentrations;
 use rules::Parameter;
@@ -15,7 +15,7 @@ ghost use Rattle.rules.specs.LabReadings.{noNumber, perHead, resultInRange};
 ghost use Rattle.rules.specs.Accepting.{accept};
 ghost use Rattle.rules.specs.Ranges.{Between};
 ghost use Rattle.accepting.specs.CutOff.{measurement};
-ghost use Rattle.accepting.specs.Conversion.{column, judgeResult, judgeMeasurement, valueOf, convert, gather, acceptReadings};
+ghost use Rattle.accepting.specs.Conversion.{column, judgeResult, judgeMeasurement, valueOf, convert, gather, acceptReadings, thenTerms};
 
 // What an f32 is in thousandths: no number, at or above the cut-off 2^23, or its thousandths.
 pub enum Measurement {
@@ -48,7 +48,11 @@ pub fn plant_in_range(plant: Plant) -> bool
             plant.aeration_temperature,
         )
         & rounding::within(50, 200, plant.sludge_volume_index)
-        & rounding::within(1_000, 50_000, plant.nitrate_target)
+        & rounding::within(
+            rules::LEAST_NITRATE_TARGET,
+            rules::MOST_NITRATE_TARGET,
+            plant.nitrate_target,
+        )
         & rounding::within(0, 100_000, plant.phosphorus_target)
         & rounding::within(100, 300, plant.carbon_peak)
         & rounding::within(100, 300, plant.nitrogen_peak)
@@ -273,7 +277,23 @@ fn accept_readings(flow: u32, settling: PrimarySettling, readings: Readings) -> 
     gather(bod, cod, solids, nitrogen, phosphorus)
 }
 
-// Plant data and readings: 1; then 2 and 3 for each reading in turn; then 4; else accepted.
+// 14, once plant data and readings have their answer: a refusal of them stands.
+fn then_terms(answer: Acceptance, valid: bool) -> Acceptance
+    ensures { λ r. ⌜ r ≡ thenTerms answer valid ⌝ }
+{
+    match answer {
+        Acceptance::Refused(refusal) => Acceptance::Refused(refusal),
+        Acceptance::Accepted(concentrations) => {
+            if valid {
+                Acceptance::Accepted(concentrations)
+            } else {
+                Acceptance::Refused(Refusal::Terms)
+            }
+        }
+    }
+}
+
+// Plant data and readings: 1; then 2 and 3 for each reading in turn; then 4; then 14; else accepted.
 pub fn accept(plant: Plant, readings: Readings) -> Acceptance
     ensures { λ r. ⌜ r ≡ accept plant readings ⌝ }
 {
@@ -281,5 +301,7 @@ pub fn accept(plant: Plant, readings: Readings) -> Acceptance
         return Acceptance::Refused(Refusal::PlantData);
     }
     let settling = plant.primary_settling;
-    accept_readings(plant.flow, settling, readings)
+    let consent = plant.consent;
+    let answer = accept_readings(plant.flow, settling, readings);
+    then_terms(answer, consents::consent_valid(consent))
 }

@@ -26,7 +26,7 @@ mostTanks = span leastRatio mostRatio * span leastTime mostTime
 
 -- the number of a fraction's verdict, and of a settling tank's
 unfoldable pub fractionNumber : Plant → Concentrations → ℕ → ℕ
-fractionNumber p x f = verdictNumber (verdict (fractionRules (reactorOf p x f)))
+fractionNumber p x f = verdictNumber (verdict (fractionRules p x (reactorOf p x f)))
 
 unfoldable pub tankNumber : Plant → ℕ → ℕ → ℕ
 tankNumber p r h = verdictNumber (verdict (tankRules p (settlingOf p r h)))

@@ -15,6 +15,7 @@ ghost use Rattle.rules.specs.SettlingSteps.{thickeningRoot, bottomSludge};
 ghost use Rattle.rules.specs.Ranges.{Between, GridFraction, GridRatio, GridTime, PlantRanges, ConcentrationRanges};
 ghost use Rattle.rules.specs.Answers.{verdictNumber};
 ghost use Rattle.rules.specs.Census.{answerNumbers, counted, census};
+ghost use Rattle.reactor.specs.Seasons.{SeasonsAt};
 ghost use Rattle.census.specs.Tallies.{fractions, mostTanks, fractionNumber, tankNumber, fractionCount, tankCount, Tally, AtMost, pairs};
 
 // The number of a verdict: 0 where every rule is kept, else the first broken rule's.
@@ -28,12 +29,17 @@ fn verdict_number(verdict: Verdict) -> u64
 }
 
 // The number of a fraction's verdict.
-fn fraction_number(plant: Plant, concentrations: Concentrations, fraction: u32) -> usize
-    requires { ⌜ PlantRanges plant × ConcentrationRanges concentrations × GridFraction fraction ⌝ }
+fn fraction_number(
+    plant: Plant,
+    concentrations: Concentrations,
+    seasons: reactor::Seasons,
+    fraction: u32,
+) -> usize
+    requires { ⌜ PlantRanges plant × ConcentrationRanges concentrations × GridFraction fraction × SeasonsAt plant seasons ⌝ }
     ensures { λ r. ⌜ (r ≡ fractionNumber plant concentrations fraction) × (r < answerNumbers) ⌝ }
 {
-    let reactor = reactor::reactor(plant, concentrations, fraction);
-    verdict_number(reactor::fraction_verdict(reactor)) as usize
+    let reactor = reactor::reactor(plant, concentrations, seasons, fraction);
+    verdict_number(reactor::fraction_verdict(plant, concentrations, reactor, seasons)) as usize
 }
 
 // The number of a settling tank's verdict, from the bottom sludge of its thickening time.
@@ -51,9 +57,10 @@ fn fraction_tally(plant: Plant, concentrations: Concentrations) -> [u64; rules::
     requires { ⌜ PlantRanges plant × ConcentrationRanges concentrations ⌝ }
     ensures { λ r. ⌜ Tally (fractionCount plant concentrations fractions) r ⌝ }
 {
+    let seasons = reactor::seasons_of(plant);
     let mut tally = [0u64; rules::ANSWER_NUMBERS];
     'fraction: for f in rules::LEAST_FRACTION..=rules::MOST_FRACTION {
-        let number = fraction_number(plant, concentrations, f);
+        let number = fraction_number(plant, concentrations, seasons, f);
         tally[number] = tally[number] + 1;
     }
     tally

@@ -16,7 +16,7 @@ use Rattle.rules.specs.declared.Verdict.{Verdict}
 use Rattle.choosing.specs.Keys.{keyOf, massBy, keptMass, tankBy, tankOf, improvedKey}
 use Rattle.choosing.specs.declared.Tank.{Tank}
 
-pub mass-by : (p : Plant) (x : Concentrations) (f : ℕ) (r : Reactor) (v : Verdict) → r ≡ reactorOf p x f → v ≡ verdict (fractionRules r) → massBy v (r .mass) ≡ keptMass p x f
+pub mass-by : (p : Plant) (x : Concentrations) (f : ℕ) (r : Reactor) (v : Verdict) → r ≡ reactorOf p x f → v ≡ verdict (fractionRules p x r) → massBy v (r .mass) ≡ keptMass p x f
 unfolding keptMass
 mass-by p x f r v e ev = rw (ev, e)
 

@@ -39,16 +39,16 @@ candidate f r h = record { fraction = f; «return_ratio» = r; thickening = h }
 -- a mass below `noneYet` is that of a fraction that keeps its rules
 pub mass-kept : (p : Plant) (x : Concentrations) (f m : ℕ) → keptMass p x f ≡ m → m < noneYet → FractionKept p x f × (reactorOf p x f .mass ≡ m)
 unfolding keptMass
-mass-kept p x f m e h = go (verdict (fractionRules (reactorOf p x f))) refl e
+mass-kept p x f m e h = go (verdict (fractionRules p x (reactorOf p x f))) refl e
   where
-    go : (v : Verdict) → verdict (fractionRules (reactorOf p x f)) ≡ v → massBy v (reactorOf p x f .mass) ≡ m → FractionKept p x f × (reactorOf p x f .mass ≡ m)
-    go Verdict.Kept q e = (all-kept-verdict (fractionRules (reactorOf p x f)) .1 q, e)
+    go : (v : Verdict) → verdict (fractionRules p x (reactorOf p x f)) ≡ v → massBy v (reactorOf p x f .mass) ≡ m → FractionKept p x f × (reactorOf p x f .mass ≡ m)
+    go Verdict.Kept q e = (all-kept-verdict (fractionRules p x (reactorOf p x f)) .1 q, e)
     go (Verdict.Broken n) q e = let z : noneYet ≡ m = e in absurd (omega arith)
 
 -- the mass of a fraction that keeps its rules
 pub kept-mass : (p : Plant) (x : Concentrations) (f : ℕ) → FractionKept p x f → keptMass p x f ≡ reactorOf p x f .mass
 unfolding keptMass
-kept-mass p x f t = ap (λ (v : Verdict). massBy v (reactorOf p x f .mass)) (all-kept-verdict (fractionRules (reactorOf p x f)) .0 t)
+kept-mass p x f t = ap (λ (v : Verdict). massBy v (reactorOf p x f .mass)) (all-kept-verdict (fractionRules p x (reactorOf p x f)) .0 t)
 
 -- E' is not 0 where E keeps rule 8
 solids-positive : (process : Process) (e : ℕ) → 1_000 ≤ e → 1 ≤ reactorSolids process e

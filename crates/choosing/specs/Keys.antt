@@ -54,7 +54,7 @@ massBy Verdict.Kept mass = mass
 massBy (Verdict.Broken n) mass = noneYet
 
 unfoldable pub keptMass : Plant → Concentrations → ℕ → ℕ
-keptMass p x f = massBy (verdict (fractionRules (reactorOf p x f))) (reactorOf p x f .mass)
+keptMass p x f = massBy (verdict (fractionRules p x (reactorOf p x f))) (reactorOf p x f .mass)
 
 -- the table's entry: the tank's E' and volume, or zeros where it breaks a rule of the tank
 abbrev pub tankBy : Verdict → Tank → Tank

@@ -15,6 +15,7 @@ ghost use Rattle.rules.specs.Limits.{mostFraction, mostRatio, mostTime, mostMas
 ghost use Rattle.rules.specs.Ranges.{Between, GridFraction, GridRatio, GridTime, PlantRanges, ConcentrationRanges};
 ghost use Rattle.rules.specs.Choosing.{grid, ChosenAmong, Chosen};
 ghost use Rattle.rules.specs.TwoColumns.{TwoColumns};
+ghost use Rattle.reactor.specs.Seasons.{SeasonsAt};
 ghost use Rattle.choosing.specs.Keys.{noneYet, keyCandidate, keptMass, tankOf, tankIndex, improvedKey, LeastKey, Settled, Filled};
 
 // What the sweep's table holds of one settling tank.
@@ -29,12 +30,17 @@ pub struct Tank {
 const NONE_YET: u64 = 18_446_744_073_709_551_615;
 
 // The sludge mass at a fraction, or NONE_YET where it breaks a rule of the fraction.
-fn kept_mass(plant: Plant, concentrations: Concentrations, fraction: u32) -> u64
-    requires { ⌜ PlantRanges plant × ConcentrationRanges concentrations × GridFraction fraction ⌝ }
+fn kept_mass(
+    plant: Plant,
+    concentrations: Concentrations,
+    seasons: reactor::Seasons,
+    fraction: u32,
+) -> u64
+    requires { ⌜ PlantRanges plant × ConcentrationRanges concentrations × GridFraction fraction × SeasonsAt plant seasons ⌝ }
     ensures { λ r. ⌜ r ≡ keptMass plant concentrations fraction ⌝ }
 {
-    let reactor = reactor::reactor(plant, concentrations, fraction);
-    match reactor::fraction_verdict(reactor) {
+    let reactor = reactor::reactor(plant, concentrations, seasons, fraction);
+    match reactor::fraction_verdict(plant, concentrations, reactor, seasons) {
         Verdict::Kept => reactor.mass,
         Verdict::Broken(_) => NONE_YET,
     }
@@ -113,8 +119,13 @@ fn improved(best: u64, mass: u64, tank: Tank, f: u32, r: u32, h: u32) -> u64
 
 // The least key over the whole grid, or NONE_YET where nothing is permitted. A fraction that is not covered, or that is
 // no lighter than a covered one before it, is left at its label.
-fn sweep(plant: Plant, concentrations: Concentrations, bottoms: [u64; 6]) -> u64
-    requires { ⌜ PlantRanges plant × ConcentrationRanges concentrations × Settled (plant .«sludge_volume_index») bottoms ⌝ }
+fn sweep(
+    plant: Plant,
+    concentrations: Concentrations,
+    seasons: reactor::Seasons,
+    bottoms: [u64; 6],
+) -> u64
+    requires { ⌜ PlantRanges plant × ConcentrationRanges concentrations × SeasonsAt plant seasons × Settled (plant .«sludge_volume_index») bottoms ⌝ }
     ensures { λ r. ⌜ LeastKey plant concentrations (grid plant) r ⌝ }
 {
     let flow = plant.tank;
@@ -123,7 +134,7 @@ fn sweep(plant: Plant, concentrations: Concentrations, bottoms: [u64; 6]) -> u64
     let mut best = NONE_YET;
     let mut lightest = NONE_YET;
     'fraction: for f in rules::LEAST_FRACTION..=rules::MOST_FRACTION {
-        let mass = kept_mass(plant, concentrations, f);
+        let mass = kept_mass(plant, concentrations, seasons, f);
         if lightest <= mass {
             continue 'fraction;
         }
@@ -156,13 +167,14 @@ pub fn choose_accepted(plant: Plant, concentrations: Concentrations) -> Answer
     ensures { λ r. ⌜ ChosenAmong plant concentrations (grid plant) r ⌝ }
 {
     let bottoms = bottoms(plant.sludge_volume_index);
-    let best = sweep(plant, concentrations, bottoms);
+    let seasons = reactor::seasons_of(plant);
+    let best = sweep(plant, concentrations, seasons, bottoms);
     if best == NONE_YET {
         return Answer::Refused(Refusal::NoDesign);
     }
     let candidate = key_candidate(best);
     let bottom = bottoms[(candidate.thickening - rules::LEAST_TIME) as usize];
-    let reactor = reactor::reactor(plant, concentrations, candidate.fraction);
+    let reactor = reactor::reactor(plant, concentrations, seasons, candidate.fraction);
     examining::judge_tank(plant, concentrations, candidate, reactor, bottom)
 }
 

@@ -8,7 +8,8 @@ use native.Mathlib.Omega.{arith}
 use lib.ListN.{length, take, drop}
 use lib.Seq.{length-take-le, length-front, take-at, drop-at}
 use Rattle.rules.specs.Answers.{writtenCount}
-use Rattle.request.specs.Layout.{candidateWords, decode, askedCandidate}
+use Rattle.request.specs.Layout.{decode, askedCandidate}
+use Rattle.request.specs.Frames.{candidateWords}
 use Rattle.request.specs.declared.Data.{Data}
 use Rattle.request.specs.declared.Decoded.{Decoded}
 use Rattle.listing.proofs.Outcomes.{writing-fits, writing-long}

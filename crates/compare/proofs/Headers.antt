@@ -7,7 +7,7 @@ use native.Mathlib.Omega.{arith}
 use lib.Dec.{leb, eqb}
 use borrow.Author.Tests.{le-leb, lt-leb, leb-true}
 use Rattle.words.specs.Bytes.{word}
-use Rattle.request.specs.Layout.{longestRequest}
+use Rattle.request.specs.Frames.{longestRequest}
 use Rattle.compare.specs.Records.{operationOf, headerOf}
 use Rattle.compare.specs.declared.Operation.{Operation}
 use Rattle.compare.specs.declared.Header.{Header}

@@ -10,7 +10,8 @@ use Rattle.rules.proofs.Computing.{steps}
 use Rattle.request.specs.Kinds.{processOf, precipitantOf, tankFlowOf, removalOf, primarySettlingOf, readingOf}
 use Rattle.words.specs.Bytes.{word, wordsFrom}
 use Rattle.request.specs.Layout.{decodeWords, decode}
-use Rattle.request.proofs.CaseA.{dataA, requestA}
+use Rattle.request.specs.Frames.{frameOf}
+use Rattle.request.proofs.CaseA.{plantA, dataA, requestA}
 use Rattle.interface.specs.Calls.{numberOf, putOn, onData, examined}
 use Rattle.compare.specs.Records.{operationOf, headerOf}
 use Rattle.compare.specs.declared.Operation.{Operation}
@@ -21,7 +22,7 @@ abbrev pub numberOn : ℕ → ℕ
 numberOn room = examined requestA (replicate room 0) .number
 
 pub page-lengths : (numberOn 193 ≡ 11) × (numberOn 194 ≡ 0)
-unfolding steps examined onData putOn numberOf dataA requestA decode decodeWords wordsFrom word processOf precipitantOf tankFlowOf removalOf primarySettlingOf readingOf ofBits writing
+unfolding steps examined onData putOn numberOf plantA dataA requestA frameOf decode decodeWords wordsFrom word processOf precipitantOf tankFlowOf removalOf primarySettlingOf readingOf ofBits writing
 page-lengths = (refl, refl)
 
 -- a header of three words of two bytes

@@ -6,7 +6,7 @@ use mathlib.Core.List.{List}
 use lib.Dec.{leb, eqb}
 use lib.ListN.{take, drop}
 use Rattle.words.specs.Bytes.{word}
-use Rattle.request.specs.Layout.{longestRequest}
+use Rattle.request.specs.Frames.{longestRequest}
 use Rattle.interface.specs.Calls.{Outcome, outcome, examined, Choosing}
 use Rattle.compare.specs.declared.Operation.{Operation}
 use Rattle.compare.specs.declared.Header.{Header}

@@ -3,3 +3,4 @@ pub mod Verdicts
 pub mod WrongExaminers
 pub mod Refuted
 pub mod WrongDoses
+pub mod WrongTerms

@@ -33,15 +33,15 @@ module _ (p : Plant) (x : Concentrations) (y : Candidate) where
 
   module _ (grid : onGrid (p .tank) y ≡ true) (r : Reactor) (er : r ≡ reactorOf p x (y .fraction)) where
     -- on the grid the verdicts on the fraction and on the tank decide, one after the other
-    decided : judge p x y ≡ answerBy (after (verdict (fractionRules r)) (verdict (tankRules p settled))) (sheetOf p x y)
+    decided : judge p x y ≡ answerBy (after (verdict (fractionRules p x r)) (verdict (tankRules p settled))) (sheetOf p x y)
     unfolding judge candidateRules
-    decided = rw (grid, ← er) (ap (λ (w : Verdict). answerBy w (sheetOf p x y)) (verdict-append (fractionRules r) (tankRules p settled)))
+    decided = rw (grid, ← er) (ap (λ (w : Verdict). answerBy w (sheetOf p x y)) (verdict-append (fractionRules p x r) (tankRules p settled)))
 
-    pub fraction-broken : (n : Refusal) → verdict (fractionRules r) ≡ Verdict.Broken n → Answer.Refused n ≡ judge p x y
+    pub fraction-broken : (n : Refusal) → verdict (fractionRules p x r) ≡ Verdict.Broken n → Answer.Refused n ≡ judge p x y
     unfolding answerBy
     fraction-broken n e = sym (decided ∙ rw e)
 
-    pub to-the-tank : verdict (fractionRules r) ≡ Verdict.Kept → judgeTank p x y ≡ judge p x y
+    pub to-the-tank : verdict (fractionRules p x r) ≡ Verdict.Kept → judgeTank p x y ≡ judge p x y
     unfolding judgeTank
     to-the-tank e = sym (decided ∙ rw e)
 

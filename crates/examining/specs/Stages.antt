@@ -11,13 +11,15 @@ use Rattle.rules.specs.declared.Concentrations.{Concentrations}
 use Rattle.rules.specs.declared.Candidate.{Candidate}
 use Rattle.rules.specs.declared.Reactor.{Reactor}
 use Rattle.rules.specs.declared.Answer.{Answer}
+use Rattle.reactor.specs.Seasons.{SeasonsAt}
 use Rattle.examining.specs.declared.Stages.{Stages}
 
--- the stages are the steps', within their limits, and the verdict is that on the rules 7 to 10
+-- the stages are the steps', within their limits, and the verdict is that on the rules of fraction and tank
 pub record StagesOf (p : Plant) (x : Concentrations) (y : Candidate) (s : Stages) : Type 0 where
   pub reactor : s .reactor ≡ reactorOf p x (y .fraction)
+  pub seasons : SeasonsAt p (s .seasons)
   pub settling : s .settling ≡ settlingOf p (y .«return_ratio») (y .thickening)
-  pub verdict : s .verdict ≡ verdict (fractionRules (s .reactor) ++ tankRules p (s .settling))
+  pub verdict : s .verdict ≡ verdict (fractionRules p x (s .reactor) ++ tankRules p (s .settling))
   pub reactorBounds : ReactorBounds (s .reactor)
   pub settlingBounds : SettlingBounds (s .settling)
 

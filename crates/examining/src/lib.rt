@@ -24,8 +24,9 @@ ghost use Rattle.rules.specs.TwoColumns.{TwoColumns};
 // What a candidate on the grid is judged by.
 pub struct Stages {
     pub reactor: Reactor,
+    pub seasons: reactor::Seasons,
     pub settling: Settling,
-    // the first of the rules 7 to 10 that is broken, or none
+    // the first of the rules 7, 15, 16 and 8 to 10 that is broken, or none
     pub verdict: Verdict,
 }
 
@@ -53,21 +54,23 @@ pub fn on_grid(tank: TankFlow, candidate: Candidate) -> bool
         & rounding::within(rules::LEAST_TIME, rules::MOST_TIME, candidate.thickening)
 }
 
-// The reactor and the settling tank of a candidate on the grid, and the verdict on its rules 7 to 10.
+// The reactor, the seasons and the settling tank of a candidate on the grid, and the verdict on its rules.
 pub fn stages_of(plant: Plant, concentrations: Concentrations, candidate: Candidate) -> Stages
     requires { ⌜ PlantRanges plant × ConcentrationRanges concentrations × OnGrid candidate ⌝ }
     ensures { λ r. ⌜ StagesOf plant concentrations candidate r ⌝ }
 {
     let ratio = candidate.return_ratio;
     let time = candidate.thickening;
-    let reactor = reactor::reactor(plant, concentrations, candidate.fraction);
+    let seasons = reactor::seasons_of(plant);
+    let reactor = reactor::reactor(plant, concentrations, seasons, candidate.fraction);
     let bottom = settling::bottom_sludge(plant.sludge_volume_index, time);
     let settling = settling::settling(plant, ratio, time, bottom);
-    let fraction = reactor::fraction_verdict(reactor);
+    let fraction = reactor::fraction_verdict(plant, concentrations, reactor, seasons);
     let tank = settling::tank_verdict(plant, settling);
     let verdict = verdicts::after(fraction, tank);
     Stages {
         reactor,
+        seasons,
         settling,
         verdict,
     }
@@ -131,7 +134,7 @@ pub fn judge_tank(
     }
 }
 
-// A candidate of accepted data: the refusal of the first rule of 6 to 10 that it breaks, else its sheet. The tank is
+// A candidate of accepted data: the refusal of the first rule that it breaks, else its sheet. The tank is
 // computed only where the fraction keeps its rules.
 pub fn judge(plant: Plant, concentrations: Concentrations, candidate: Candidate) -> Answer
     requires { ⌜ PlantRanges plant × ConcentrationRanges concentrations ⌝ }
@@ -141,8 +144,9 @@ pub fn judge(plant: Plant, concentrations: Concentrations, candidate: Candidate)
     if !on_grid(tank, candidate) {
         return Answer::Refused(Refusal::OffGrid);
     }
-    let reactor = reactor::reactor(plant, concentrations, candidate.fraction);
-    match reactor::fraction_verdict(reactor) {
+    let seasons = reactor::seasons_of(plant);
+    let reactor = reactor::reactor(plant, concentrations, seasons, candidate.fraction);
+    match reactor::fraction_verdict(plant, concentrations, reactor, seasons) {
         Verdict::Broken(refusal) => Answer::Refused(refusal),
         Verdict::Kept => {
             let bottom = settling::bottom_sludge(plant.sludge_volume_index, candidate.thickening);

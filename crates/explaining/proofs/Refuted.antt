@@ -3,11 +3,16 @@ use mathlib.Core.Path.{_≡_, refl, ap}
 use mathlib.Core.List.{List, [], _∷_}
 use Prim.Native.Nat.{ℕ}
 use borrow.Author.Tests.{eqb-false}
-use Rattle.rules.specs.Answers.{explanationNumber, explanationFigures, explainedFigures, verdictNumber}
+use lib.ListN.{take, drop, replicate}
+use Rattle.rules.specs.Answers.{verdictNumber}
+use Rattle.rules.specs.Explanations.{explanationNumber, explanationFigures, explainedFigures}
 use Rattle.rules.specs.Explaining.{explain}
+use Rattle.rules.specs.Consent.{noTerm}
 use Rattle.rules.specs.WithoutDose.{withDose}
+use Rattle.rules.specs.WithoutTerms.{withConsent}
 use Rattle.rules.specs.Cases.{caseA, readingsA, candidate}
 use Rattle.rules.specs.declared.Plant.{Plant}
+use Rattle.rules.specs.declared.Consent.{Consent}
 use Rattle.rules.specs.declared.Readings.{Readings}
 use Rattle.rules.specs.declared.Candidate.{Candidate}
 use Rattle.rules.specs.declared.Refusal.{Refusal}
@@ -36,9 +41,9 @@ pub verdict-always-kept : (explanationNumber (explain caseA readingsA (candidate
 unfolding steps
 verdict-always-kept = (refl, refl)
 
--- the figures of the fraction 299 with a dose, in their order
+-- the design's figures of the fraction 299 with a dose, in their order
 abbrev dosedFigures : ℕ → List ℕ
-dosedFigures dose = explainedFigures (explanationFigures (explain (withDose dose caseA) readingsA (candidate 299 75 20)))
+dosedFigures dose = take 9 (explainedFigures (explanationFigures (explain (withDose dose caseA) readingsA (candidate 299 75 20))))
 
 -- it leaves the dose out of the right column, or exchanges its parts: at a dose of 1,000 they are 25,800 and 200, and their sum
 -- just covers 26,000; at 999 they do not
@@ -47,3 +52,22 @@ pub dosed-columns :
     × (dosedFigures 999 ≡ 26_000 ∷ 25_800 ∷ 199 ∷ 25_999 ∷ 3_777 ∷ 378 ∷ 454 ∷ 4_537 ∷ 7 ∷ [])
 unfolding steps
 dosed-columns = (refl, refl)
+
+-- one term, at 11 °C with a target of 12,000, and a dose of 1,500 that removes 300: nitrification needs 773 of the age, 227 is
+-- left, and 23,000 of its 24,000 are removed by the tank's BOD; past the count there are zeros
+abbrev cold : Consent
+cold =
+    record {
+      count = 1;
+      first = record { first = record { month = 11; day = 1 }; last = record { month = 4; day = 30 }; temperature = 11; «nitrate_target» = 12_000 };
+      second = noTerm;
+      third = noTerm;
+      fourth = noTerm;
+    }
+
+-- it shows the design's columns for a term's, leaves the dose out there, or looks past the count
+pub term-columns :
+    drop 8 (explainedFigures (explanationFigures (explain (withDose 1_500 (withConsent cold caseA)) readingsA (candidate 300 75 20))))
+    ≡ 16 ∷ 773 ∷ 227 ∷ 24_000 ∷ 23_000 ∷ 23_300 ∷ replicate 15 0
+unfolding steps
+term-columns = refl

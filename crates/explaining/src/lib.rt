@@ -1,5 +1,5 @@
-// Explaining a candidate: the two nitrate columns, the figures that the rules 8 to 10 ask of and the first of 7 to 10 that
-// is broken, whatever it is.
+// Explaining a candidate: the two nitrate columns, here and in each term of the consent, the figures that the rules 8 to 10 ask
+// of, and the first rule that is broken, whatever it is.
 use rules::Acceptance;
 use rules::Candidate;
 use rules::Concentrations;
@@ -17,12 +17,24 @@ fn explained(plant: Plant, concentrations: Concentrations, candidate: Candidate)
     requires { ⌜ PlantRanges plant × ConcentrationRanges concentrations × OnGrid candidate ⌝ }
     ensures { λ r. ⌜ r ≡ candidateExplained plant concentrations candidate ⌝ }
 {
+    let process = plant.process;
+    let bod = concentrations.bod;
     let stages = examining::stages_of(plant, concentrations, candidate);
     let reactor = stages.reactor;
+    let seasons = stages.seasons;
     let settling = stages.settling;
     let verdict = stages.verdict;
     let removed_by_bod = reactor.removes / 1000;
     let removed_by_dose = reactor.removed_by_dose;
+    let count = seasons.count;
+    let first = seasons.first;
+    let second = seasons.second;
+    let third = seasons.third;
+    let fourth = seasons.fourth;
+    let first = reactor::explained_in(count, 0, process, bod, reactor, first);
+    let second = reactor::explained_in(count, 1, process, bod, reactor, second);
+    let third = reactor::explained_in(count, 2, process, bod, reactor, third);
+    let fourth = reactor::explained_in(count, 3, process, bod, reactor, fourth);
     Explained {
         denitrified: reactor.denitrified,
         removed_by_bod,
@@ -33,6 +45,10 @@ fn explained(plant: Plant, concentrations: Concentrations, candidate: Candidate)
         surface: settling.surface,
         depth: settling.depth,
         verdict,
+        first,
+        second,
+        third,
+        fourth,
     }
 }
 

@@ -13,7 +13,8 @@ use Rattle.rules.specs.declared.Answer.{Answer}
 use Rattle.rules.specs.declared.Written.{Written}
 use Rattle.words.specs.Bytes.{numberBytes}
 use Rattle.words.proofs.Stores.{sets-start, length-numbers}
-use Rattle.request.specs.Layout.{decode, faultNumber}
+use Rattle.request.specs.Layout.{decode}
+use Rattle.request.specs.Frames.{faultNumber}
 use Rattle.request.specs.declared.Fault.{Fault}
 use Rattle.request.specs.declared.Data.{Data}
 use Rattle.request.specs.declared.Decoded.{Decoded}

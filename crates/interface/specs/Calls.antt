@@ -1,13 +1,15 @@
 -- What a call of the interface gives back, whole, for every byte string and every page. Assumes nothing.
 use Prim.Native.Nat.{ℕ}
 use mathlib.Core.Path.{_≡_}
-use mathlib.Core.List.{List}
-use Rattle.rules.specs.Answers.{refusalNumber, answerNumber, writtenCount, explanationNumber, explanationFigures, explainedFigures}
+use mathlib.Core.List.{List, [], _∷_}
+use Rattle.rules.specs.Answers.{refusalNumber, answerNumber, writtenCount, targetNumber, targetValue}
+use Rattle.rules.specs.Explanations.{explanationNumber, explanationFigures, explainedFigures}
 use Rattle.rules.specs.Listing.{listing, writing, pageAfter}
 use Rattle.rules.specs.Examining.{examine}
 use Rattle.rules.specs.Choosing.{Chosen}
 use Rattle.rules.specs.Explaining.{explain}
 use Rattle.rules.specs.Census.{census}
+use Rattle.rules.specs.Consent.{targetOn}
 use Rattle.rules.specs.DayLog.{twoWeekLoad, loadNumber, loadOf, loadFigures}
 use Rattle.rules.specs.declared.Candidate.{Candidate}
 use Rattle.rules.specs.declared.Answer.{Answer}
@@ -15,11 +17,15 @@ use Rattle.rules.specs.declared.Census.{Census}
 use Rattle.rules.specs.declared.Written.{Written}
 use Rattle.rules.specs.declared.Explanation.{Explanation}
 use Rattle.rules.specs.declared.LoadAnswer.{LoadAnswer}
+use Rattle.rules.specs.declared.TargetAnswer.{TargetAnswer}
 use Rattle.words.specs.Bytes.{numberBytes}
-use Rattle.request.specs.Layout.{candidateWords, decode, askedCandidate, faultNumber}
+use Rattle.request.specs.Layout.{decode, askedCandidate}
+use Rattle.request.specs.ConsentLayout.{decodeInquiry}
+use Rattle.request.specs.Frames.{candidateWords, faultNumber}
 use Rattle.request.specs.declared.Fault.{Fault}
 use Rattle.request.specs.declared.Data.{Data}
 use Rattle.request.specs.declared.Decoded.{Decoded}
+use Rattle.request.specs.declared.DecodedInquiry.{DecodedInquiry}
 
 -- the number, the page afterwards and the number of bytes written
 pub record Outcome : Type 0 where
@@ -89,6 +95,18 @@ censusAt page x = countsPut (census (x .plant) (x .readings)) page
 
 unfoldable pub censused : List ℕ → List ℕ → Outcome
 censused bytes page = onData (censusAt page) page (decode bytes 0)
+
+-- the target of a date's answer on a page, with the number 0, or a zero with 14
+abbrev pub targetPut : TargetAnswer → List ℕ → Outcome
+targetPut answer page = putOn (targetNumber answer) (numberBytes (targetValue answer ∷ [])) page
+
+-- a request for the target of a date: malformed, or the target of its terms and date
+abbrev pub targetOfInquiry : List ℕ → DecodedInquiry → Outcome
+targetOfInquiry page (DecodedInquiry.Malformed fault) = malformed fault page
+targetOfInquiry page (DecodedInquiry.Inquiry x) = targetPut (targetOn (x .consent) (x .date)) page
+
+unfoldable pub targeted : List ℕ → List ℕ → Outcome
+targeted bytes page = targetOfInquiry page (decodeInquiry bytes)
 
 -- a day log: its answer's load on a page, with the number 0, or zeros with 12 or 13
 abbrev pub loadPut : LoadAnswer → List ℕ → Outcome

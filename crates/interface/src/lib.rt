@@ -1,21 +1,25 @@
 // The calls for C: a request's bytes in; out the answer's number, its listing or its figures on a page that the caller
 // lends, and the number of bytes written there.
 use request::Decoded;
+use request::DecodedInquiry;
 use rules::Answer;
 use rules::Census;
 use rules::Explained;
 use rules::Explanation;
 use rules::LoadAnswer;
 use rules::Refusal;
+use rules::TargetAnswer;
+use rules::TermExplained;
 use rules::TwoWeekLoad;
 use rules::Verdict;
 use rules::Written;
 ghost use mathlib.Core.Path.{_≡_};
 ghost use Prim.Native.Nat.{_≤_};
-ghost use Rattle.rules.specs.Answers.{refusalNumber, answerNumber, verdictNumber, explanationNumber, explanationFigures};
+ghost use Rattle.rules.specs.Answers.{refusalNumber, answerNumber, verdictNumber, targetNumber, targetValue};
+ghost use Rattle.rules.specs.Explanations.{explanationNumber, explanationFigures};
 ghost use Rattle.rules.specs.DayLog.{loadNumber, loadOf};
 ghost use Rattle.words.specs.Bytes.{numberBytes};
-ghost use Rattle.interface.specs.Calls.{outcome, putOn, answered, examined, Choosing, figured, explained, countsPut, censused, loaded};
+ghost use Rattle.interface.specs.Calls.{outcome, putOn, answered, examined, Choosing, figured, explained, countsPut, censused, targetPut, targeted, loaded};
 
 // The paper's number of a refusal.
 fn refusal_number(refusal: Refusal) -> u32
@@ -104,17 +108,30 @@ fn explanation_figures(explanation: Explanation) -> Explained
 {
     match explanation {
         Explanation::Figures(figures) => figures,
-        Explanation::Refused(_) => Explained {
-            denitrified: 0,
-            removed_by_bod: 0,
-            removed_by_dose: 0,
-            removable: 0,
-            solids: 0,
-            sludge_volume: 0,
-            surface: 0,
-            depth: 0,
-            verdict: Verdict::Kept,
-        },
+        Explanation::Refused(_) => {
+            let no_term = TermExplained {
+                aerobic_share: 0,
+                fraction: 0,
+                denitrified: 0,
+                removed_by_bod: 0,
+                removable: 0,
+            };
+            Explained {
+                denitrified: 0,
+                removed_by_bod: 0,
+                removed_by_dose: 0,
+                removable: 0,
+                solids: 0,
+                sludge_volume: 0,
+                surface: 0,
+                depth: 0,
+                verdict: Verdict::Kept,
+                first: no_term,
+                second: no_term,
+                third: no_term,
+                fourth: no_term,
+            }
+        }
     }
 }
 
@@ -150,6 +167,10 @@ fn put_explanation(explanation: Explanation, page: &mut [u8], written: &mut u64)
     let number = explanation_number(explanation);
     let explained = explanation_figures(explanation);
     let verdict = explained.verdict;
+    let first = explained.first;
+    let second = explained.second;
+    let third = explained.third;
+    let fourth = explained.fourth;
     let figures = [
         explained.denitrified,
         explained.removed_by_bod,
@@ -160,6 +181,26 @@ fn put_explanation(explanation: Explanation, page: &mut [u8], written: &mut u64)
         explained.surface,
         explained.depth,
         verdict_number(verdict),
+        first.aerobic_share,
+        first.fraction,
+        first.denitrified,
+        first.removed_by_bod,
+        first.removable,
+        second.aerobic_share,
+        second.fraction,
+        second.denitrified,
+        second.removed_by_bod,
+        second.removable,
+        third.aerobic_share,
+        third.fraction,
+        third.denitrified,
+        third.removed_by_bod,
+        third.removable,
+        fourth.aerobic_share,
+        fourth.fraction,
+        fourth.denitrified,
+        fourth.removed_by_bod,
+        fourth.removable,
     ];
     put_figures(number, &figures, page, written)
 }
@@ -207,6 +248,56 @@ pub extern "C" fn pewgull_census(request: &[u8], page: &mut [u8], written: &mut 
             let plant = data.plant;
             let readings = data.readings;
             put_census(pewgull::census(plant, readings), page, written)
+        }
+    }
+}
+
+// The number of a date's answer: 0 where terms and date are valid.
+fn target_number(answer: TargetAnswer) -> u32
+    ensures { λ r. ⌜ r ≡ targetNumber answer ⌝ }
+{
+    match answer {
+        TargetAnswer::InForce(_) => 0,
+        TargetAnswer::NoTerm => 0,
+        TargetAnswer::Refused(refusal) => refusal_number(refusal),
+    }
+}
+
+// The target of a date's answer: 0 where no term runs, and where it is refused.
+fn target_value(answer: TargetAnswer) -> u64
+    ensures { λ r. ⌜ r ≡ targetValue answer ⌝ }
+{
+    match answer {
+        TargetAnswer::InForce(target) => target as u64,
+        TargetAnswer::NoTerm => 0,
+        TargetAnswer::Refused(_) => 0,
+    }
+}
+
+// Writes the target of a date's answer on the page, in eight bytes, and gives its number.
+fn put_target(answer: TargetAnswer, page: &mut [u8], written: &mut u64) -> u32
+    ensures { λ r. ⌜ outcome r (now (page .exit)) (now (written .exit)) ≡ targetPut answer (now (page .entry)) ⌝ }
+{
+    let number = target_number(answer);
+    let target = target_value(answer);
+    put_figures(number, &[target], page, written)
+}
+
+// The lowest target in force for the terms and the date of a request. A malformed request is answered by 101 or 102, and
+// nothing is written.
+#[no_mangle]
+pub extern "C" fn pewgull_target(request: &[u8], page: &mut [u8], written: &mut u64) -> u32
+    ensures { λ r. ⌜ outcome r (now (page .exit)) (now (written .exit)) ≡ targeted (now (request .entry)) (now (page .entry)) ⌝ }
+{
+    match request::decode_inquiry(request) {
+        DecodedInquiry::Malformed(fault) => {
+            *written = 0;
+            request::fault_number(fault)
+        }
+        DecodedInquiry::Inquiry(inquiry) => {
+            let consent = inquiry.consent;
+            let date = inquiry.date;
+            put_target(pewgull::target_on(consent, date), page, written)
         }
     }
 }

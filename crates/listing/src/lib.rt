@@ -30,6 +30,9 @@ pub fn refusal_number(refusal: Refusal) -> u64
         Refusal::ShortPage => 11,
         Refusal::DayLog => 12,
         Refusal::DayValue => 13,
+        Refusal::Terms => 14,
+        Refusal::Nitrification => 15,
+        Refusal::TermNitrate => 16,
     }
 }
 

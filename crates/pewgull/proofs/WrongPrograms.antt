@@ -17,9 +17,15 @@ pub use Rattle.examining.proofs.Refuted.{refuted}
 -- the whole nitrate or below 0, the dose taken off the nitrogen to nitrify or counted in the sludge, its range off by one:
 -- fields of one record
 pub use Rattle.examining.proofs.WrongDoses.{WrongDoses, wrong-doses}
+-- the terms of the consent: 15 and 16 asked term by term, a difference of 0 refused, G not below 10 °C, K of a fraction under 200,
+-- another fraction, U or rise of K than the term's, the dose left out, entries past the count looked at, 14 before 4; and of the
+-- days: a term over the new year taken as empty, 29 February refused, 30 February accepted, equal days as a year, the highest
+-- target, the first term in force: fields of two records
+pub use Rattle.examining.proofs.WrongTerms.{WrongTerms, wrong-terms}
+pub use Rattle.consents.proofs.Refuted.{WrongDays, wrong-days}
 -- every candidate explained as off the grid, or by the figures of one; no rule found broken where one is; the dose left out
--- of the right column, or its parts exchanged
-pub use Rattle.explaining.proofs.Refuted.{always-off-grid, one-candidate-explained, verdict-always-kept, dosed-columns}
+-- of the right column, or its parts exchanged; the design's columns for a term's
+pub use Rattle.explaining.proofs.Refuted.{always-off-grid, one-candidate-explained, verdict-always-kept, dosed-columns, term-columns}
 -- every page refused; a page left as it was, written past the listing's end, or written in part
 pub use Rattle.listing.proofs.Refuted.{not-refused, not-untouched, not-past-the-end, not-in-part}
 -- a reading scaled in floating point, and other wrong conversions

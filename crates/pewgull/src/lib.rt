@@ -3,16 +3,22 @@
 use rules::Answer;
 use rules::Candidate;
 use rules::Census;
+use rules::Consent;
+use rules::Date;
 use rules::Explanation;
 use rules::LoadAnswer;
 use rules::Plant;
 use rules::Readings;
+use rules::TargetAnswer;
 use rules::Written;
 ghost use mathlib.Core.Path.{_≡_};
 ghost use Rattle.rules.specs.Examining.{examine};
 ghost use Rattle.rules.specs.Choosing.{Chosen};
 ghost use Rattle.rules.specs.Explaining.{explain};
-ghost use Rattle.rules.specs.Answers.{answerNumber, answerSheet, explanationNumber, explanationFigures, writtenNumber, writtenCount};
+ghost use Rattle.rules.specs.Answers.{answerNumber, answerSheet, targetNumber, targetValue, writtenNumber, writtenCount};
+ghost use Rattle.rules.specs.Explanations.{explanationNumber, explanationFigures};
+ghost use Rattle.rules.specs.Consent.{targetOn};
+ghost use Rattle.rules.specs.TargetOutcome.{TargetOutcome};
 ghost use Rattle.rules.specs.Census.{census, CensusOutcome};
 ghost use Rattle.rules.specs.DayLog.{twoWeekLoad, loadNumber, loadOf};
 ghost use Rattle.rules.specs.DayLogOutcome.{LoadOutcome};
@@ -38,7 +44,7 @@ pub fn choose(plant: Plant, readings: Readings) -> Answer
     choosing::choose(plant, readings)
 }
 
-// The figures that explain a candidate, whatever the rules 7 to 10 say of it.
+// The figures that explain a candidate, whatever the rules of fraction and tank say of it.
 pub fn explain(plant: Plant, readings: Readings, candidate: Candidate) -> Explanation
     ensures { λ r. ⌜ r ≡ explain plant readings candidate ⌝ }
     ensures numbered { λ r. ⌜ ExplainedOutcome plant readings candidate (explanationNumber r) (explanationFigures r) ⌝ }
@@ -52,6 +58,14 @@ pub fn census(plant: Plant, readings: Readings) -> Census
     ensures numbered { λ r. ⌜ CensusOutcome plant readings (r .number) (r .counts) ⌝ }
 {
     census::census(plant, readings)
+}
+
+// The lowest nitrate target in force on a day, for any terms of a consent and any date, or that no term runs.
+pub fn target_on(consent: Consent, date: Date) -> TargetAnswer
+    ensures { λ r. ⌜ r ≡ targetOn consent date ⌝ }
+    ensures numbered { λ r. ⌜ TargetOutcome consent date (targetNumber r) (targetValue r) ⌝ }
+{
+    consents::target_on(consent, date)
 }
 
 // The highest load over 14 consecutive days of a day log, given by its bytes.

@@ -3,12 +3,12 @@ use Prim.Native.Nat.{ℕ, _*_, _≤_}
 use native.Mathlib.Nat.{mul-le-mul, mul-le-mul-right}
 use native.Mathlib.Omega.{arith}
 use Rattle.rules.specs.Limits.{mostAge, mostNitrogen, mostCapacity, mostSludge}
-use Rattle.rules.specs.Ranges.{GridFraction, PlantRanges, ConcentrationRanges, ReactorBounds}
+use Rattle.rules.specs.Ranges.{Between, GridFraction, PlantRanges, ConcentrationRanges, ReactorBounds}
 use Rattle.rules.specs.AgeNitrate.{safetyFactor, aerobicAge, sludgeAge, correctedAge, nitrified, capacity}
 use Rattle.rules.specs.ReactorSteps.{sludgeProduction, reactorOf}
 use Rattle.rules.specs.declared.Plant.{Plant}
 use Rattle.rules.specs.declared.Concentrations.{Concentrations}
-use Rattle.reactor.proofs.AgeLimits.{safety-factor-most, aerobic-age-most, sludge-age-most}
+use Rattle.reactor.proofs.AgeLimits.{safety-factor-between, aerobic-age-between, aerobic-age-most, sludge-age-between}
 use Rattle.reactor.proofs.NitrateLimits.{nitrified-most, denitrified-most, capacity-most, removed-by-dose-most}
 use Rattle.reactor.proofs.SludgeLimits.{sludge-production-most, sludge-mass-most}
 
@@ -19,13 +19,13 @@ unfolding reactorOf
 reactor-bounds p x f hp hx hf =
     record {
       fraction = hf;
-      age = t-most;
+      age = t-between;
       nitrified = w-most;
       denitrified = denitrified-most (nitrified (x .nitrogen) (x .bod)) (p .«nitrate_target») w-most;
       removes = omega (arith, mul-le-mul k-most (hx .bod .most));
       byDose = removed-by-dose-most (p .dose) (hp .dose .most);
       sludge = s-most;
-      mass = sludge-mass-most t (sludgeProduction p x (correctedAge t (p .«design_temperature»))) t-most s-most;
+      mass = sludge-mass-most t (sludgeProduction p x (correctedAge t (p .«design_temperature»))) (t-between .most) s-most;
     }
   where
     factor : ℕ
@@ -34,10 +34,13 @@ reactor-bounds p x f hp hx hf =
     t : ℕ
     t = sludgeAge (aerobicAge factor (p .«design_temperature»)) f
 
-    t-most : t ≤ mostAge
-    t-most =
-        sludge-age-most (aerobicAge factor (p .«design_temperature»)) f
-        (aerobic-age-most factor (p .«design_temperature») (safety-factor-most (p .load)) (hp .design))
+    t-between : Between 1 mostAge t
+    t-between =
+        sludge-age-between (aerobicAge factor (p .«design_temperature»)) f
+        (record {
+          least = aerobic-age-between factor (p .«design_temperature») (safety-factor-between (p .load)) (omega (arith, hp .design)) .least;
+          most = aerobic-age-most factor (p .«design_temperature») (safety-factor-between (p .load) .most) (hp .design);
+        })
         (hf .most)
 
     k-most : capacity (p .process) f (p .«design_temperature») (correctedAge t (p .«design_temperature»)) ≤ mostCapacity

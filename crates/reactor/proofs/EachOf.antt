@@ -3,6 +3,8 @@ use Prim.Native.Nat.{ℕ, zero, suc, _+_, _≤_, _<_}
 use mathlib.Core.Path.{_≡_, refl, sym, subst}
 use mathlib.Core.Bool.{Bool, true, false, _&&_}
 use lib.Dec.{T, leb, leb→le, eqb}
+use Rattle.rules.specs.PlantData.{within}
+use Rattle.rules.proofs.Tests.{within-between}
 use lib.Ieee.Fits.{and-l, and-r}
 use borrow.Author.Tests.{eqb-true, eqb-false}
 use native.Mathlib.Omega.{arith}
@@ -31,3 +33,10 @@ pub largest :
     (f : ℕ → ℕ) (low more most : ℕ) →
     T (each (λ k. leb (f k) most) low (suc more)) → {n : ℕ} → Between low (low + more) n → f n ≤ most
 largest f low more most t {n} b = leb→le (f n) most (one-of (λ k. leb (f k) most) low (suc more) n t (b .least) (omega arith))
+
+-- a function's least and largest value there
+pub ranged :
+    (f : ℕ → ℕ) (low more least most : ℕ) →
+    T (each (λ k. within least most (f k)) low (suc more)) → {n : ℕ} → Between low (low + more) n → Between least most (f n)
+ranged f low more least most t {n} b =
+    within-between least most (f n) .0 (one-of (λ k. within least most (f k)) low (suc more) n t (b .least) (omega arith))

@@ -5,4 +5,5 @@ pub mod AgeLimits
 pub mod NitrateLimits
 pub mod SludgeLimits
 pub mod Bounds
+pub mod EverySeason
 pub mod Refuted

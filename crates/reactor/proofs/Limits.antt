@@ -5,9 +5,14 @@ use mathlib.Core.Path.{_≡_}
 use native.Mathlib.Nat.{mul-le-mul-right, div-le-of-le-mul}
 use native.Mathlib.Omega.{arith}
 use Rattle.rules.specs.Rounding.{down}
+use Rattle.rules.specs.Ranges.{Between}
 
 pub limited : {r value most : ℕ} → r ≡ value → value ≤ most → (r ≡ value) × (r ≤ most)
 limited e h = (e, omega arith)
+
+-- the same with both limits
+pub ranged-as : {r value least most : ℕ} → r ≡ value → Between least most value → (r ≡ value) × Between least most r
+ranged-as e b = (e, omega (arith, b))
 
 pub levels-off : (m most u : ℕ) → m ≤ 17 * most → down (m * u) (100000 + 17 * u) ≤ most
 levels-off m most u h = div-le-of-le-mul (100000 + 17 * u) (omega (arith, mul-le-mul-right u h))

@@ -2,6 +2,7 @@
 mod age;
 mod nitrate;
 mod sludge;
+mod terms;
 mod volume;
 
 use rules::Concentrations;
@@ -14,6 +15,7 @@ ghost use Rattle.rules.specs.ReactorSteps.{reactorOf};
 ghost use Rattle.rules.specs.Rules.{verdict};
 ghost use Rattle.rules.specs.Examining.{fractionRules};
 ghost use Rattle.rules.specs.Ranges.{GridFraction, PlantRanges, ConcentrationRanges, ReactorBounds};
+ghost use Rattle.reactor.specs.Seasons.{SeasonsAt};
 pub use age::aerobic_age;
 pub use age::corrected_age;
 pub use age::decay;
@@ -21,12 +23,41 @@ pub use age::safety_factor;
 pub use age::sludge_age;
 pub use nitrate::capacity_uptake;
 pub use sludge::biomass_decay;
+pub use terms::explained_in;
+pub use terms::seasons_of;
 pub use volume::reactor_solids;
 pub use volume::reactor_volume;
 
+// What the design or a term of the consent asks of a reactor, whatever the fraction.
+pub struct Season {
+    // degrees
+    pub temperature: u64,
+    // nitrate target, mg/m3
+    pub target: u64,
+    // a at this temperature, thousandths of a day
+    pub aerobic_age: u64,
+    // F at this temperature, millionths
+    pub decay: u64,
+}
+
+// The design, and the terms of the consent: as many as the count says, zeros past it.
+pub struct Seasons {
+    pub design: Season,
+    pub count: u32,
+    pub first: Season,
+    pub second: Season,
+    pub third: Season,
+    pub fourth: Season,
+}
+
 // f, t, W, D, K × C, what the dose removes, S and M at a fraction of the grid.
-pub fn reactor(plant: Plant, concentrations: Concentrations, fraction: u32) -> Reactor
-    requires { ⌜ PlantRanges plant × ConcentrationRanges concentrations × GridFraction fraction ⌝ }
+pub fn reactor(
+    plant: Plant,
+    concentrations: Concentrations,
+    seasons: Seasons,
+    fraction: u32,
+) -> Reactor
+    requires { ⌜ PlantRanges plant × ConcentrationRanges concentrations × GridFraction fraction × SeasonsAt plant seasons ⌝ }
     ensures { λ r. ⌜ (r ≡ reactorOf plant concentrations fraction) × ReactorBounds r ⌝ }
 {
     let f = fraction as u64;
@@ -34,11 +65,9 @@ pub fn reactor(plant: Plant, concentrations: Concentrations, fraction: u32) -> R
     let dose = plant.dose as u64;
     let bod = concentrations.bod;
     let process = plant.process;
-    let age = age::sludge_age(
-        age::aerobic_age(age::safety_factor(plant.load as u64), temperature),
-        f,
-    );
-    let corrected = age::corrected_age(age, temperature);
+    let design = seasons.design;
+    let age = age::sludge_age(design.aerobic_age, f);
+    let corrected = age::corrected_by(age, design.decay);
     let nitrified = nitrate::nitrified(concentrations.nitrogen, bod);
     let denitrified = nitrate::denitrified(nitrified, plant.nitrate_target as u64);
     let capacity = nitrate::capacity(process, f, temperature, corrected);
@@ -58,15 +87,33 @@ pub fn reactor(plant: Plant, concentrations: Concentrations, fraction: u32) -> R
     }
 }
 
-// The verdict on the fraction's rule 7.
-pub fn fraction_verdict(reactor: Reactor) -> Verdict
-    requires { ⌜ ReactorBounds reactor ⌝ }
-    ensures { λ r. ⌜ r ≡ verdict (fractionRules reactor) ⌝ }
+// The verdict on the fraction's rules 7, 15 and 16. The terms, if any, are looked at only where the nitrate is covered.
+pub fn fraction_verdict(
+    plant: Plant,
+    concentrations: Concentrations,
+    reactor: Reactor,
+    seasons: Seasons,
+) -> Verdict
+    requires { ⌜ ConcentrationRanges concentrations × ReactorBounds reactor × SeasonsAt plant seasons ⌝ }
+    ensures { λ r. ⌜ r ≡ verdict (fractionRules plant concentrations reactor) ⌝ }
 {
+    let process = plant.process;
     let covered = nitrate::covered(
         reactor.removes,
         reactor.removed_by_dose,
         reactor.denitrified,
     );
-    verdicts::rule(covered, Refusal::Nitrate, Verdict::Kept)
+    if !covered {
+        return Verdict::Broken(Refusal::Nitrate);
+    }
+    if seasons.count == 0 {
+        return Verdict::Kept;
+    }
+    let nitrified = terms::every_nitrified(reactor.age, seasons);
+    let term_covered = terms::every_covered(process, concentrations.bod, reactor, seasons);
+    verdicts::rule(
+        nitrified,
+        Refusal::Nitrification,
+        verdicts::rule(term_covered, Refusal::TermNitrate, Verdict::Kept),
+    )
 }

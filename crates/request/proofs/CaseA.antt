@@ -4,19 +4,25 @@ use mathlib.Core.Path.{_≡_, refl}
 use mathlib.Core.List.{List, [], _∷_, _++_}
 use Prim.Native.Nat.{ℕ}
 use lib.Ieee.{ofBits, round}
-use lib.ListN.{set, take}
+use lib.ListN.{set, take, replicate}
+use Rattle.rules.specs.Consent.{noTerm}
 use Rattle.rules.specs.Cases.{variant, caseA, f32, readingsWith, readingsA, candidate}
 use Rattle.rules.specs.WithoutDose.{withDose}
+use Rattle.rules.specs.WithoutTerms.{withConsent}
+use Rattle.rules.specs.declared.Consent.{Consent}
 use Rattle.request.specs.Kinds.{processOf, precipitantOf, tankFlowOf, removalOf, primarySettlingOf, readingOf}
 use Rattle.words.specs.Bytes.{word, wordsFrom}
-use Rattle.request.specs.Layout.{candidateWords, decodeWords, decode, askedCandidate}
+use Rattle.request.specs.Layout.{decodeWords, decode, askedCandidate}
+use Rattle.request.specs.ConsentLayout.{decodeInquiry}
+use Rattle.request.specs.Frames.{candidateWords, frameOf}
 use Rattle.request.specs.declared.Fault.{Fault}
 use Rattle.request.specs.declared.Decoded.{Decoded}
+use Rattle.request.specs.declared.DecodedInquiry.{DecodedInquiry}
 
--- the data, one word a line
-unfoldable pub dataA : List ℕ
-dataA =
-    0x02 ∷ 0x00 ∷ 0x00 ∷ 0x00
+-- the words before the consent's, one a line
+unfoldable pub plantA : List ℕ
+plantA =
+    0x03 ∷ 0x00 ∷ 0x00 ∷ 0x00
     ∷ 0xb0 ∷ 0x04 ∷ 0x00 ∷ 0x00
     ∷ 0x88 ∷ 0x13 ∷ 0x00 ∷ 0x00
     ∷ 0x58 ∷ 0x02 ∷ 0x00 ∷ 0x00
@@ -48,6 +54,10 @@ dataA =
     ∷ 0x00 ∷ 0x00 ∷ 0x00 ∷ 0x00
     ∷ []
 
+-- the data: with a consent without terms
+unfoldable pub dataA : List ℕ
+dataA = plantA ++ replicate 100 0
+
 -- with the candidate's words
 unfoldable pub requestA : List ℕ
 requestA = dataA ++ (0x2c ∷ 0x01 ∷ 0x00 ∷ 0x00 ∷ 0x4b ∷ 0x00 ∷ 0x00 ∷ 0x00 ∷ 0x14 ∷ 0x00 ∷ 0x00 ∷ 0x00 ∷ [])
@@ -56,36 +66,61 @@ pub case-a :
     (decode dataA 0 ≡ Decoded.Data (record { plant = caseA; readings = readingsA }))
     × (decode requestA candidateWords ≡ Decoded.Data (record { plant = caseA; readings = readingsA }))
     × (askedCandidate requestA ≡ candidate 300 75 20)
-unfolding dataA requestA decode decodeWords wordsFrom word processOf precipitantOf tankFlowOf removalOf primarySettlingOf readingOf ofBits caseA variant readingsA readingsWith f32 round candidate
+unfolding plantA dataA requestA frameOf decode decodeWords wordsFrom word processOf precipitantOf tankFlowOf removalOf primarySettlingOf readingOf ofBits caseA variant readingsA readingsWith f32 round candidate
 case-a = (refl, refl, refl)
 
--- a dose of 65,539, the last word of the data
+-- a dose of 65,539, the last word before the consent's
 pub dosed : decode (set (set dataA 116 3) 118 1) 0 ≡ Decoded.Data (record { plant = withDose 65_539 caseA; readings = readingsA })
-unfolding dataA decode decodeWords wordsFrom word processOf precipitantOf tankFlowOf removalOf primarySettlingOf readingOf ofBits caseA variant withDose readingsA readingsWith f32 round
+unfolding plantA dataA frameOf decode decodeWords wordsFrom word processOf precipitantOf tankFlowOf removalOf primarySettlingOf readingOf ofBits caseA variant withDose readingsA readingsWith f32 round
 dosed = refl
 
+-- a term from 1 November to 30 April at 8 degrees with a target of 13,000, the first of one; and the same terms with 29 February
+-- asked for
+pub consentA : List ℕ
+consentA = 1 ∷ 0 ∷ 0 ∷ 0 ∷ 11 ∷ 0 ∷ 0 ∷ 0 ∷ 1 ∷ 0 ∷ 0 ∷ 0 ∷ 4 ∷ 0 ∷ 0 ∷ 0 ∷ 30 ∷ 0 ∷ 0 ∷ 0 ∷ 8 ∷ 0 ∷ 0 ∷ 0 ∷ 0xc8 ∷ 0x32 ∷ 0 ∷ 0 ∷ replicate 72 0
+
+abbrev winter : Consent
+winter =
+    record {
+      count = 1;
+      first = record { first = record { month = 11; day = 1 }; last = record { month = 4; day = 30 }; temperature = 8; «nitrate_target» = 13_000 };
+      second = noTerm;
+      third = noTerm;
+      fourth = noTerm;
+    }
+
+pub termed : decode (plantA ++ consentA) 0 ≡ Decoded.Data (record { plant = withConsent winter caseA; readings = readingsA })
+unfolding plantA consentA frameOf decode decodeWords wordsFrom word processOf precipitantOf tankFlowOf removalOf primarySettlingOf readingOf ofBits caseA variant withConsent readingsA readingsWith f32 round
+termed = refl
+
+pub asked :
+    decodeInquiry ((3 ∷ 0 ∷ 0 ∷ 0 ∷ []) ++ (consentA ++ (2 ∷ 0 ∷ 0 ∷ 0 ∷ 29 ∷ 0 ∷ 0 ∷ 0 ∷ [])))
+    ≡ DecodedInquiry.Inquiry (record { consent = winter; date = record { month = 2; day = 29 } })
+unfolding consentA frameOf decodeInquiry word
+asked = refl
+
 -- malformed in more than one way, the first test decides
--- a request of version 1 as it was, with a word less, whatever its kinds; and no first word at all
-pub earlier-version : decode (take 116 (set (set dataA 0 1) 56 5)) 0 ≡ Decoded.Malformed Fault.Version
-unfolding dataA decode word
+-- a request of version 2 as it was, with 25 words less, whatever its kinds; and no first word at all
+pub earlier-version : decode (take 120 (set (set dataA 0 2) 56 5)) 0 ≡ Decoded.Malformed Fault.Version
+unfolding plantA dataA frameOf decode word
 earlier-version = refl
 
 pub too-long : decode (set requestA 56 5 ++ (0 ∷ [])) candidateWords ≡ Decoded.Malformed Fault.Length
-unfolding dataA requestA decode word
+unfolding plantA dataA requestA frameOf decode word
 too-long = refl
 
 pub too-short : decode (1 ∷ 0 ∷ 0 ∷ []) 0 ≡ Decoded.Malformed Fault.Length
-unfolding decode
+unfolding frameOf decode
 too-short = refl
 
 pub unknown-kinds :
     (decode (set requestA 56 5) candidateWords ≡ Decoded.Malformed Fault.Kind)
     × (decode (set requestA 108 3) candidateWords ≡ Decoded.Malformed Fault.Kind)
-unfolding dataA requestA decode decodeWords wordsFrom word
+unfolding plantA dataA requestA frameOf decode decodeWords wordsFrom word
 unknown-kinds = (refl, refl)
 
 -- each call takes its own length alone
 pub own-words :
     (decode requestA 0 ≡ Decoded.Malformed Fault.Length) × (decode dataA candidateWords ≡ Decoded.Malformed Fault.Length)
-unfolding dataA requestA decode word
+unfolding plantA dataA requestA frameOf decode word
 own-words = (refl, refl)

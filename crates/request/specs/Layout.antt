@@ -1,45 +1,30 @@
--- The layout of a request of the newest version, the only one that is answered: the data, which are version, plant and
--- readings, and then the own words of the call that it is for, each word a 32-bit unsigned number in four bytes, the lowest
--- first. Assumes nothing.
-use Prim.Native.Nat.{ℕ, _+_, _*_}
+-- The layout of a request with plant data: the data, which are version, plant, readings and consent, and then the own words of the
+-- call that it is for. Each word is a 32-bit unsigned number in four bytes, the lowest first. Assumes nothing.
+use Prim.Native.Nat.{ℕ, _+_}
 use mathlib.Core.Bool.{Bool, cond, _&&_}
 use mathlib.Core.List.{List}
-use lib.Dec.{leb, eqb}
-use lib.ListN.{length, getD}
+use lib.Dec.{leb}
+use lib.ListN.{getD}
 use Rattle.words.specs.Bytes.{word, wordsFrom}
+use Rattle.request.specs.Frames.{plantWords, dataWords, frameOf}
+use Rattle.request.specs.ConsentLayout.{consentOf}
 use Rattle.request.specs.Kinds.{processOf, precipitantOf, tankFlowOf, removalOf, primarySettlingOf, readingOf}
 use Rattle.rules.specs.declared.Process.{Process}
 use Rattle.rules.specs.declared.Precipitant.{Precipitant}
 use Rattle.rules.specs.declared.TankFlow.{TankFlow}
 use Rattle.rules.specs.declared.Removal.{Removal}
 use Rattle.rules.specs.declared.PrimarySettling.{PrimarySettling}
+use Rattle.rules.specs.declared.Consent.{Consent}
 use Rattle.rules.specs.declared.Plant.{Plant}
 use Rattle.rules.specs.declared.Readings.{Readings}
 use Rattle.rules.specs.declared.Candidate.{Candidate}
 use Rattle.request.specs.declared.Fault.{Fault}
+use Rattle.request.specs.declared.Frame.{Frame}
 use Rattle.request.specs.declared.Decoded.{Decoded}
 
--- the newest version
-abbrev pub version : ℕ
-version = 2
-
--- the data's words, and the own words of a call that is asked of a candidate
-abbrev pub dataWords : ℕ
-dataWords = 30
-
-abbrev pub candidateWords : ℕ
-candidateWords = 3
-
--- the bytes of a request with so many own words, and of the longest
-abbrev pub requestLength : ℕ → ℕ
-requestLength own = 4 * (dataWords + own)
-
-abbrev pub longestRequest : ℕ
-longestRequest = 4_096
-
--- the plant with these kinds, its figures the words 1 to 13 and 29 of the data
-abbrev pub plantWith : List ℕ → Process → Precipitant → TankFlow → Removal → PrimarySettling → Plant
-plantWith words process precipitant tank removal settling =
+-- the plant with these kinds and this consent, its figures the words 1 to 13 and 29 of the data
+abbrev pub plantWith : List ℕ → Process → Precipitant → TankFlow → Removal → PrimarySettling → Consent → Plant
+plantWith words process precipitant tank removal settling consent =
     record {
       load = getD words 1 0;
       flow = getD words 2 0;
@@ -60,17 +45,19 @@ plantWith words process precipitant tank removal settling =
       removal = removal;
       «primary_settling» = settling;
       dose = getD words 29 0;
+      consent = consent;
     }
 
 -- the plant, with the kinds of the words 14 to 18
-abbrev pub plantOf : List ℕ → Plant
-plantOf words =
+abbrev pub plantOf : List ℕ → Consent → Plant
+plantOf words consent =
     plantWith words
     (processOf (getD words 14 0))
     (precipitantOf (getD words 15 0))
     (tankFlowOf (getD words 16 0))
     (removalOf (getD words 17 0))
     (primarySettlingOf (getD words 18 0))
+    consent
 
 -- the readings, words 19 to 28 of the data
 abbrev pub readingsOf : List ℕ → Readings
@@ -97,22 +84,21 @@ kindsKnown words =
     && leb (getD words 25 0) 2
     && leb (getD words 27 0) 2
 
--- the data's words decoded: 103, else what they hold
-unfoldable pub decodeWords : List ℕ → Decoded
-decodeWords words =
+-- the data's words decoded, with the consent: 103, else what they hold
+unfoldable pub decodeWords : List ℕ → Consent → Decoded
+decodeWords words consent =
     cond (kindsKnown words)
-    (Decoded.Data (record { plant = plantOf words; readings = readingsOf words }))
+    (Decoded.Data (record { plant = plantOf words consent; readings = readingsOf words }))
     (Decoded.Malformed Fault.Kind)
 
--- the data of a request for a call with so many own words: 102 by its first word, which a version of another length has
--- too; then 101 by its length, also where there is no first word; else what its data are decoded to
+-- what a whole request holds
+abbrev pub onFrame : Frame → Decoded → Decoded
+onFrame Frame.Whole d = d
+onFrame (Frame.Malformed fault) d = Decoded.Malformed fault
+
+-- the data of a request for a call with so many own words
 unfoldable pub decode : List ℕ → ℕ → Decoded
-decode bytes own =
-    cond (leb 4 (length bytes))
-    (cond (eqb (word bytes 0) version)
-    (cond (eqb (length bytes) (requestLength own)) (decodeWords (wordsFrom bytes 0 dataWords)) (Decoded.Malformed Fault.Length))
-    (Decoded.Malformed Fault.Version))
-    (Decoded.Malformed Fault.Length)
+decode bytes own = onFrame (frameOf bytes (dataWords + own)) (decodeWords (wordsFrom bytes 0 plantWords) (consentOf bytes plantWords))
 
 -- the candidate that a call is asked of: the first three of its own words, which come after the data
 abbrev pub askedCandidate : List ℕ → Candidate
@@ -122,9 +108,3 @@ askedCandidate bytes =
       «return_ratio» = word bytes (dataWords + 1);
       thickening = word bytes (dataWords + 2);
     }
-
--- a malformed request's number
-abbrev pub faultNumber : Fault → ℕ
-faultNumber Fault.Length = 101
-faultNumber Fault.Version = 102
-faultNumber Fault.Kind = 103

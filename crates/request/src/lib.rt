@@ -1,5 +1,7 @@
 // A request's bytes decoded by the layout of the newest version, or found malformed.
 use rules::Candidate;
+use rules::Consent;
+use rules::Date;
 use rules::Plant;
 use rules::Precipitant;
 use rules::PrimarySettling;
@@ -9,14 +11,17 @@ use rules::Readings;
 use rules::Removal;
 use rules::Steps;
 use rules::TankFlow;
+use rules::Term;
 ghost use mathlib.Core.Path.{_≡_};
-ghost use Prim.Native.Nat.{_≤_};
+ghost use Prim.Native.Nat.{_+_, _*_, _≤_};
 ghost use lib.ListN.{length};
 ghost use Rattle.request.specs.Kinds.{processOf, precipitantOf, tankFlowOf, removalOf, primarySettlingOf, readingOf};
-ghost use Rattle.request.specs.Layout.{requestLength, longestRequest, candidateWords};
-ghost use Rattle.request.specs.Layout.{plantOf, readingsOf, kindsKnown, decodeWords, decode, askedCandidate, faultNumber};
+ghost use Rattle.request.specs.Frames.{plantWords, termWords, consentWords, dataWords, requestLength, longestRequest, candidateWords};
+ghost use Rattle.request.specs.Layout.{plantOf, readingsOf, kindsKnown, decodeWords, decode, askedCandidate};
+ghost use Rattle.request.specs.ConsentLayout.{dateOf, termOf, consentOf, decodeInquiry};
+ghost use Rattle.request.specs.Frames.{frameOf, faultNumber};
 
-// What every request holds besides its call's own words.
+// What every request with plant data holds besides its call's own words.
 pub struct Data {
     pub plant: Plant,
     pub readings: Readings,
@@ -36,11 +41,35 @@ pub enum Decoded {
     Malformed(Fault),
 }
 
-// The newest version, the only one that is answered.
-const VERSION: u32 = 2;
+// What a request for the target of a date holds.
+pub struct Inquiry {
+    pub consent: Consent,
+    pub date: Date,
+}
 
-// The words of the data: version, plant, readings and dose.
-const DATA_WORDS: usize = 30;
+// What decoding such a request gives.
+pub enum DecodedInquiry {
+    Inquiry(Inquiry),
+    Malformed(Fault),
+}
+
+// Whether a request has the newest version and its length.
+pub enum Frame {
+    Whole,
+    Malformed(Fault),
+}
+
+// The newest version, the only one that is answered.
+const VERSION: u32 = 3;
+
+// The words before the consent's: version, plant, readings and dose.
+const PLANT_WORDS: usize = 30;
+
+// The words of the data: those, and the consent's.
+const DATA_WORDS: usize = 55;
+
+// The words of a request for the target of a date: version, consent, month and day.
+const INQUIRY_WORDS: usize = 28;
 
 // The own words of a call that is asked of a candidate.
 pub const CANDIDATE_WORDS: usize = 3;
@@ -111,7 +140,7 @@ fn reading(code: u32, value: u32) -> Reading
 }
 
 // Every kind is one of the layout's.
-fn kinds_known(words: [u32; DATA_WORDS]) -> bool
+fn kinds_known(words: [u32; PLANT_WORDS]) -> bool
     ensures { λ r. ⌜ r ≡ kindsKnown words ⌝ }
 {
     (words[14] <= 4)
@@ -126,9 +155,9 @@ fn kinds_known(words: [u32; DATA_WORDS]) -> bool
         & (words[27] <= 2)
 }
 
-// The plant, words 1 to 18 and 29.
-fn plant(words: [u32; DATA_WORDS]) -> Plant
-    ensures { λ r. ⌜ r ≡ plantOf words ⌝ }
+// The plant, words 1 to 18 and 29, with its consent.
+fn plant(words: [u32; PLANT_WORDS], consent: Consent) -> Plant
+    ensures { λ r. ⌜ r ≡ plantOf words consent ⌝ }
 {
     Plant {
         load: words[1],
@@ -150,11 +179,12 @@ fn plant(words: [u32; DATA_WORDS]) -> Plant
         removal: removal(words[17]),
         primary_settling: primary_settling(words[18]),
         dose: words[29],
+        consent,
     }
 }
 
 // The readings, words 19 to 28.
-fn readings(words: [u32; DATA_WORDS]) -> Readings
+fn readings(words: [u32; PLANT_WORDS]) -> Readings
     ensures { λ r. ⌜ r ≡ readingsOf words ⌝ }
 {
     Readings {
@@ -166,17 +196,79 @@ fn readings(words: [u32; DATA_WORDS]) -> Readings
     }
 }
 
-// The data's words decoded.
-fn decode_words(words: [u32; DATA_WORDS]) -> Decoded
-    ensures { λ r. ⌜ r ≡ decodeWords words ⌝ }
+// A day: two words, month and day.
+fn date(bytes: &[u8], at: usize) -> Date
+    requires { ⌜ (at ≤ dataWords) × (4 * (at + 2) ≤ length (now bytes)) ⌝ }
+    ensures { λ r. ⌜ r ≡ dateOf (now (bytes .entry)) at ⌝ }
+{
+    Date {
+        month: words::word(bytes, at),
+        day: words::word(bytes, at + 1),
+    }
+}
+
+// A term: six words, first and last day, temperature and target.
+fn term(bytes: &[u8], at: usize) -> Term
+    requires { ⌜ (at + termWords ≤ dataWords) × (4 * (at + termWords) ≤ length (now bytes)) ⌝ }
+    ensures { λ r. ⌜ r ≡ termOf (now (bytes .entry)) at ⌝ }
+{
+    let first = date(bytes, at);
+    let last = date(bytes, at + 2);
+    Term {
+        first,
+        last,
+        temperature: words::word(bytes, at + 4),
+        nitrate_target: words::word(bytes, at + 5),
+    }
+}
+
+// A consent: the number of terms, and four terms.
+fn consent(bytes: &[u8], at: usize) -> Consent
+    requires { ⌜ (at ≤ plantWords) × (4 * (at + consentWords) ≤ length (now bytes)) ⌝ }
+    ensures { λ r. ⌜ r ≡ consentOf (now (bytes .entry)) at ⌝ }
+{
+    let count = words::word(bytes, at);
+    let first = term(bytes, at + 1);
+    let second = term(bytes, at + 7);
+    let third = term(bytes, at + 13);
+    let fourth = term(bytes, at + 19);
+    Consent {
+        count,
+        first,
+        second,
+        third,
+        fourth,
+    }
+}
+
+// The data's words decoded, with the consent.
+fn decode_words(words: [u32; PLANT_WORDS], consent: Consent) -> Decoded
+    ensures { λ r. ⌜ r ≡ decodeWords words consent ⌝ }
 {
     if !kinds_known(words) {
         return Decoded::Malformed(Fault::Kind);
     }
     Decoded::Data(Data {
-        plant: plant(words),
+        plant: plant(words, consent),
         readings: readings(words),
     })
+}
+
+// A request of the newest version and of so many words, or what is wrong with it.
+fn framed(bytes: &[u8], words: usize) -> Frame
+    requires { ⌜ 4 * words ≤ longestRequest ⌝ }
+    ensures { λ r. ⌜ r ≡ frameOf (now (bytes .entry)) words ⌝ }
+{
+    if bytes.len() < 4 {
+        return Frame::Malformed(Fault::Length);
+    }
+    if words::word(bytes, 0) != VERSION {
+        return Frame::Malformed(Fault::Version);
+    }
+    if bytes.len() != 4 * words {
+        return Frame::Malformed(Fault::Length);
+    }
+    Frame::Whole
 }
 
 // The data of a request for a call with so many own words.
@@ -184,18 +276,28 @@ pub fn decode(bytes: &[u8], own: usize) -> Decoded
     requires { ⌜ requestLength own ≤ longestRequest ⌝ }
     ensures { λ r. ⌜ r ≡ decode (now (bytes .entry)) own ⌝ }
 {
-    if bytes.len() < 4 {
-        return Decoded::Malformed(Fault::Length);
+    match framed(bytes, DATA_WORDS + own) {
+        Frame::Malformed(fault) => Decoded::Malformed(fault),
+        Frame::Whole => {
+            let mut words = [0u32; PLANT_WORDS];
+            words::read_words(bytes, &mut words);
+            decode_words(words, consent(bytes, PLANT_WORDS))
+        }
     }
-    if words::word(bytes, 0) != VERSION {
-        return Decoded::Malformed(Fault::Version);
+}
+
+// The terms and the date of a request for the target in force.
+pub fn decode_inquiry(bytes: &[u8]) -> DecodedInquiry
+    ensures { λ r. ⌜ r ≡ decodeInquiry (now (bytes .entry)) ⌝ }
+{
+    match framed(bytes, INQUIRY_WORDS) {
+        Frame::Malformed(fault) => DecodedInquiry::Malformed(fault),
+        Frame::Whole => {
+            let consent = consent(bytes, 1);
+            let date = date(bytes, 26);
+            DecodedInquiry::Inquiry(Inquiry { consent, date })
+        }
     }
-    if bytes.len() != 4 * (DATA_WORDS + own) {
-        return Decoded::Malformed(Fault::Length);
-    }
-    let mut words = [0u32; DATA_WORDS];
-    words::read_words(bytes, &mut words);
-    decode_words(words)
 }
 
 // The candidate that a call is asked of: the call's own words, which come after the data.

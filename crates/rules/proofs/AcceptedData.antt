@@ -1,4 +1,4 @@
--- Plant data and readings are accepted exactly when none of 1 to 4 is broken, with the readings' own values, and refused
+-- Plant data and readings are accepted exactly when none of 1 to 4 and 14 is broken, with the readings' own values, and refused
 -- with n exactly when n is the first one broken. Accepted data are in their ranges. Assumes nothing.
 use mathlib.Core.Logic.{_↔_}
 use mathlib.Core.Path.{_≡_, refl, sym, ap}
@@ -11,7 +11,8 @@ use lib.Ieee.Fits.{and-l, and-r}
 use Rattle.rules.specs.Rules.{Rule, rule, allKept, verdict, FirstBroken}
 use Rattle.rules.specs.PlantData.{plantInRange}
 use Rattle.rules.specs.LabReadings.{resultInRange, headsInRange, readingNoNumber, readingValue, readingInRange, codRatioBroken}
-use Rattle.rules.specs.Accepting.{valuesOf, readingRules, readingsRules, dataRules, acceptBy, accept}
+use Rattle.rules.specs.Consent.{consentValid}
+use Rattle.rules.specs.Accepting.{valuesOf, readingRules, readingsRules, termsRule, dataRules, acceptBy, accept}
 use Rattle.rules.specs.Ranges.{Between, PlantRanges, ConcentrationRanges}
 use Rattle.rules.specs.declared.Plant.{Plant}
 use Rattle.rules.specs.declared.PrimarySettling.{PrimarySettling}
@@ -41,19 +42,19 @@ unfolding acceptBy
 by-broken Verdict.Kept x n e = absurd (refused-no n x (sym e))
 by-broken (Verdict.Broken m) x n e = cc
 
--- what is accepted breaks none of 1 to 4, and the concentrations are the readings' values
+-- what is accepted breaks none of 1 to 4 and 14, and the concentrations are the readings' values
 pub accepted-none-due : (p : Plant) (r : Readings) (x : Concentrations) → accept p r ≡ Acceptance.Accepted x → T (allKept (dataRules p r)) × (valuesOf p r ≡ x)
 unfolding accept
 accepted-none-due p r x e =
     let h = by-verdict (verdict (dataRules p r)) (valuesOf p r) x e in
     (all-kept-verdict (dataRules p r) .1 (h .0), h .1)
 
--- where none of 1 to 4 is broken, the data are accepted
+-- where none of them is broken, the data are accepted
 pub none-due-accepted : (p : Plant) (r : Readings) → T (allKept (dataRules p r)) → accept p r ≡ Acceptance.Accepted (valuesOf p r)
 unfolding accept acceptBy
 none-due-accepted p r none = ap (λ (v : Verdict). acceptBy v (valuesOf p r)) (all-kept-verdict (dataRules p r) .0 none)
 
--- acceptance refuses with n exactly when n is the first of 1 to 4 that is due
+-- acceptance refuses with n exactly when n is the first of them that is due
 pub data-refused-when-due : (p : Plant) (r : Readings) (n : Refusal) → (accept p r ≡ Acceptance.Refused n) ↔ FirstBroken (dataRules p r) n
 unfolding accept acceptBy
 data-refused-when-due p r n = (
@@ -103,13 +104,16 @@ kept-between q s k r t =
 pub none-due-ranges : (p : Plant) (r : Readings) → T (allKept (dataRules p r)) → PlantRanges p × ConcentrationRanges (valuesOf p r)
 unfolding dataRules valuesOf
 none-due-ranges p r t =
-    let all = and-r (plantInRange p) (allKept (readingsRules p r)) t in
+    let later = and-r (plantInRange p) (allKept (readingsRules p r ++ (termsRule p ∷ []))) t in
+    let both = kept-append (readingsRules p r) (termsRule p ∷ []) .0 later in
+    let all = both .0 in
     let bod = kept-append (of Parameter.Bod (r .bod)) (from-cod) .0 all in
     let cod = kept-append (of Parameter.Cod (r .cod)) (from-solids) .0 (bod .1) in
     let solids = kept-append (of Parameter.Solids (r .solids)) (from-nitrogen) .0 (cod .1) in
     let nitrogen = kept-append (of Parameter.Nitrogen (r .nitrogen)) (from-phosphorus) .0 (solids .1) in
     let phosphorus = kept-append (of Parameter.Phosphorus (r .phosphorus)) (ratio) .0 (nitrogen .1) in (
-      plant-ranges p .0 (and-l (plantInRange p) (allKept (readingsRules p r)) t),
+      plant-ranges p .0
+          (and-l (plantInRange p) (allKept (readingsRules p r ++ (termsRule p ∷ []))) t, and-l (consentValid (p .consent)) Bool.true (both .1)),
       record {
         bod = kept-between (p .flow) (p .«primary_settling») Parameter.Bod (r .bod) (bod .0);
         cod = kept-between (p .flow) (p .«primary_settling») Parameter.Cod (r .cod) (cod .0);

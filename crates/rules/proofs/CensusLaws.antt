@@ -1,4 +1,4 @@
--- The census accounts for the whole grid: its counts add up to the grid's size, all of them and those of 0 and 7 to 10
+-- The census accounts for the whole grid: its counts add up to the grid's size, all of them and those of 0, 7, 15, 16 and 8 to 10
 -- alone. Assumes nothing.
 use mathlib.Core.Logic.{_⊎_, inl, inr}
 use mathlib.Core.Path.{_≡_, refl, sym, ap, _∙_, subst}
@@ -14,8 +14,10 @@ use Rattle.rules.specs.Rules.{rule, verdict, after}
 use Rattle.rules.specs.AgeNitrate.{onGrid, covered}
 use Rattle.rules.specs.ReactorSteps.{reactorOf}
 use Rattle.rules.specs.SettlingSteps.{settlingOf, solidsKept}
+use Rattle.rules.specs.Consent.{termsOf, every}
+use Rattle.rules.specs.TermSteps.{nitrifies, termCovered}
 use Rattle.rules.specs.Examining.{sheetOf, fractionRules, tankRules, candidateRules, answerBy, judge}
-use Rattle.rules.specs.Answers.{refusalNumber, answerNumber, verdictNumber}
+use Rattle.rules.specs.Answers.{answerNumber, verdictNumber}
 use Rattle.rules.specs.Census.{sumOverGrid, gridSize, one, counted, answerNumbers}
 use Rattle.rules.specs.declared.Plant.{Plant}
 use Rattle.rules.specs.declared.TankFlow.{TankFlow}
@@ -74,7 +76,7 @@ answer-verdict (Verdict.Broken n) s = refl
 
 -- the fraction's verdict, the tank's verdict
 abbrev pub fractionVerdict : Plant → Concentrations → ℕ → Verdict
-fractionVerdict p x f = verdict (fractionRules (reactorOf p x f))
+fractionVerdict p x f = verdict (fractionRules p x (reactorOf p x f))
 
 abbrev pub tankVerdict : Plant → ℕ → ℕ → Verdict
 tankVerdict p r h = verdict (tankRules p (settlingOf p r h))
@@ -94,7 +96,7 @@ judged-number p x y on =
     answer-verdict (verdict (candidateRules p x y)) (sheetOf p x y)
     ∙ ap verdictNumber
     (on-grid-first (onGrid (p .tank) y) _ (Verdict.Broken Refusal.OffGrid) on
-    ∙ verdict-append (fractionRules (reactorOf p x (y .fraction))) (tankRules p (settlingOf p (y .«return_ratio») (y .thickening))))
+    ∙ verdict-append (fractionRules p x (reactorOf p x (y .fraction))) (tankRules p (settlingOf p (y .«return_ratio») (y .thickening))))
 
 -- ---- the counts add up
 
@@ -110,40 +112,59 @@ all-counted p x =
     (verdict-number-below (after (fractionVerdict p x (y .fraction)) (tankVerdict p (y .«return_ratio») (y .thickening))))))
     ∙ grid-ones (p .tank))
 
--- a list of the rules 7 to 10 is answered with one of 0 and 7 to 10
-five-numbers :
-    (a b c d : Bool) (n : ℕ)
-    → n ≡ verdictNumber (verdict (rule Refusal.Nitrate a ∷ rule Refusal.Solids b ∷ rule Refusal.Surface c ∷ rule Refusal.Depth d ∷ []))
-    → one n 0 + one n 7 + one n 8 + one n 9 + one n 10 ≡ 1
-unfolding verdictNumber refusalNumber
-five-numbers false b c d n e = rw e
-five-numbers true false c d n e = rw e
-five-numbers true true false d n e = rw e
-five-numbers true true true false n e = rw e
-five-numbers true true true true n e = rw e
+-- the rules of a fraction and of a tank are answered with one of 0, 7, 15, 16 and 8 to 10
+rule-numbers :
+    (a b c d e f : Bool) (n : ℕ)
+    → n
+    ≡ verdictNumber
+    (verdict
+    (rule Refusal.Nitrate a
+    ∷ rule Refusal.Nitrification b
+    ∷ rule Refusal.TermNitrate c
+    ∷ rule Refusal.Solids d
+    ∷ rule Refusal.Surface e
+    ∷ rule Refusal.Depth f
+    ∷ []))
+    → one n 0 + one n 7 + one n 15 + one n 16 + one n 8 + one n 9 + one n 10 ≡ 1
+unfolding verdictNumber
+rule-numbers false b c d e f n q = rw q
+rule-numbers true false c d e f n q = rw q
+rule-numbers true true false d e f n q = rw q
+rule-numbers true true true false e f n q = rw q
+rule-numbers true true true true false f n q = rw q
+rule-numbers true true true true true false n q = rw q
+rule-numbers true true true true true true n q = rw q
 
--- those of 0 and of the rules 7 to 10: nothing else is counted
-pub rules-counted : (p : Plant) (x : Concentrations) → counted p x 0 + counted p x 7 + counted p x 8 + counted p x 9 + counted p x 10 ≡ gridSize (p .tank)
+-- those of 0 and of these rules: nothing else is counted
+pub rules-counted :
+    (p : Plant) (x : Concentrations)
+    → counted p x 0 + counted p x 7 + counted p x 15 + counted p x 16 + counted p x 8 + counted p x 9 + counted p x 10 ≡ gridSize (p .tank)
 unfolding counted
 rules-counted p x =
     sym
-    (grid-plus tank (λ y. of y 0 + of y 7 + of y 8 + of y 9) (λ y. of y 10)
+    (grid-plus tank (λ y. of y 0 + of y 7 + of y 15 + of y 16 + of y 8 + of y 9) (λ y. of y 10)
     ∙ ap (λ (s : ℕ). s + sumOverGrid tank (λ y. of y 10))
-    (grid-plus tank (λ y. of y 0 + of y 7 + of y 8) (λ y. of y 9)
+    (grid-plus tank (λ y. of y 0 + of y 7 + of y 15 + of y 16 + of y 8) (λ y. of y 9)
     ∙ ap (λ (s : ℕ). s + sumOverGrid tank (λ y. of y 9))
-    (grid-plus tank (λ y. of y 0 + of y 7) (λ y. of y 8)
-    ∙ ap (λ (s : ℕ). s + sumOverGrid tank (λ y. of y 8)) (grid-plus tank (λ y. of y 0) (λ y. of y 7)))))
+    (grid-plus tank (λ y. of y 0 + of y 7 + of y 15 + of y 16) (λ y. of y 8)
+    ∙ ap (λ (s : ℕ). s + sumOverGrid tank (λ y. of y 8))
+    (grid-plus tank (λ y. of y 0 + of y 7 + of y 15) (λ y. of y 16)
+    ∙ ap (λ (s : ℕ). s + sumOverGrid tank (λ y. of y 16))
+    (grid-plus tank (λ y. of y 0 + of y 7) (λ y. of y 15)
+    ∙ ap (λ (s : ℕ). s + sumOverGrid tank (λ y. of y 15)) (grid-plus tank (λ y. of y 0) (λ y. of y 7)))))))
     ∙ (grid-same tank _ (λ y. 1)
     (λ y on.
     let t = settlingOf p (y .«return_ratio») (y .thickening) in
     let f = reactorOf p x (y .fraction) in
-    five-numbers
+    rule-numbers
     (covered (f .removes) (f .«removed_by_dose») (f .denitrified))
+    (every (nitrifies p f) (termsOf (p .consent)))
+    (every (termCovered p x f) (termsOf (p .consent)))
     (solidsKept (t .solids) (t .«sludge_volume»))
     (leb (t .surface) (p .«site_surface»))
     (leb (t .depth) (p .«site_depth»))
     (answerNumber (judge p x y))
-    (judged-number p x y on ∙ ap verdictNumber (sym (verdict-append (fractionRules f) (tankRules p t)))))
+    (judged-number p x y on ∙ ap verdictNumber (sym (verdict-append (fractionRules p x f) (tankRules p t)))))
     ∙ grid-ones tank)
   where
     tank : TankFlow

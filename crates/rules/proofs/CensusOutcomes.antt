@@ -2,7 +2,7 @@
 -- permitted, and then choosing answers 5. Assumes nothing.
 use mathlib.Core.Logic.{_↔_, inl, inr}
 use mathlib.Core.Path.{_≡_, refl, sym, ap, _∙_, subst}
-use Prim.Native.Nat.{ℕ, zero, suc, _+_, _≤_}
+use Prim.Native.Nat.{ℕ, _≤_}
 use native.Mathlib.Omega.{arith}
 use lib.Dec.{T}
 use Rattle.rules.specs.Sums.{valuesFrom}
@@ -11,7 +11,6 @@ use Rattle.rules.specs.Accepting.{valuesOf, dataRules, accept}
 use Rattle.rules.specs.Examining.{permitted, judge}
 use Rattle.rules.specs.Answers.{refusalNumber, answerNumber}
 use Rattle.rules.specs.Choosing.{candidateOf, grid, ChosenAmong, ChosenAccepted, Chosen}
-use Rattle.rules.specs.Outcomes.{AllZero}
 use Rattle.rules.specs.Census.{one, counted, answerNumbers, censusAccepted, census, CensusOutcome}
 use Rattle.rules.specs.declared.Plant.{Plant}
 use Rattle.rules.specs.declared.Readings.{Readings}
@@ -26,6 +25,7 @@ use Rattle.rules.proofs.AcceptedData.{accepted-none-due, none-due-accep
 use Rattle.rules.proofs.Examined.{judge-permitted, judge-sheet}
 use Rattle.rules.proofs.GridSums.{grid-zero}
 use Rattle.rules.proofs.CensusLaws.{one-other}
+use Rattle.rules.proofs.OutcomeLaws.{zeros}
 
 -- ---- no design
 
@@ -66,11 +66,6 @@ five-when-none p r a kept chosen = go a (subst (ChosenAccepted p a) (none-due-ac
     go (Answer.Refused n) none = (λ e. none-permitted p x .1 (none .1), λ e. ap Answer.Refused (none .0))
 
 -- ---- what the call promises
-
-zeros : (a n : ℕ) → AllZero (valuesFrom a n (λ k. 0))
-unfolding valuesFrom
-zeros a zero = tt
-zeros a (suc n) = (refl, zeros (a + 1) n)
 
 pub census-outcome : (p : Plant) (r : Readings) (c : Census) → c ≡ census p r → CensusOutcome p r (c .number) (c .counts)
 unfolding census censusAccepted

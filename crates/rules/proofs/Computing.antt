@@ -3,17 +3,21 @@
 use lib.Ieee.{round, ofBits}
 use Rattle.words.specs.Bytes
 use Rattle.rules.specs.PlantData.{figuresWithoutDose, plantFigures, plantInRange}
+use Rattle.rules.specs.Consent
 use Rattle.rules.specs.LabReadings
 use Rattle.rules.specs.Accepting
 use Rattle.rules.specs.AgeNitrate
 use Rattle.rules.specs.ReactorSteps
 use Rattle.rules.specs.SettlingSteps
 use Rattle.rules.specs.AerationSteps
+use Rattle.rules.specs.TermSteps
 use Rattle.rules.specs.Examining
 use Rattle.rules.specs.Choosing
 use Rattle.rules.specs.Explaining
 use Rattle.rules.specs.WithoutDose.{withDose}
+use Rattle.rules.specs.WithoutTerms.{withConsent}
 use Rattle.rules.specs.Answers
+use Rattle.rules.specs.Explanations
 use Rattle.rules.specs.Listing
 use Rattle.rules.specs.Sums
 use Rattle.rules.specs.Census
@@ -29,6 +33,13 @@ unfolding
     figuresWithoutDose
     plantFigures
     plantInRange
+    Consent.daysOf
+    Consent.dateValid
+    Consent.notAfter
+    Consent.inForce
+    Consent.termValid
+    Consent.consentValid
+    Consent.targetOn
     LabReadings.noNumber
     LabReadings.thousandths
     LabReadings.perHead
@@ -97,6 +108,14 @@ unfolding
     AerationSteps.recirculation
     AerationSteps.aerationSaving
     AerationSteps.aerationOf
+    TermSteps.aerobicShare
+    TermSteps.termShare
+    TermSteps.nitrifies
+    TermSteps.termFraction
+    TermSteps.termCapacity
+    TermSteps.termRemoves
+    TermSteps.termDenitrified
+    TermSteps.termCovered
     Examining.totalOf
     Examining.sheetFrom
     Examining.sheetOf
@@ -113,18 +132,24 @@ unfolding
     Explaining.explainAccepted
     Explaining.explain
     Explaining.explanationRules
+    Explaining.termExplained
+    Explaining.termAt
     Choosing.candidateOf
     Choosing.candidateTotal
     withDose
+    withConsent
     Answers.emptySheet
     Answers.answerNumber
     Answers.answerSheet
     Answers.acceptanceNumber
     Answers.verdictNumber
     Answers.sheetFigures
-    Answers.explainedFigures
-    Answers.explanationNumber
-    Answers.explanationFigures
+    Explanations.termFigures
+    Explanations.explainedFigures
+    Answers.targetNumber
+    Answers.targetValue
+    Explanations.explanationNumber
+    Explanations.explanationFigures
     Listing.text
     Listing.digits
     Listing.numeral

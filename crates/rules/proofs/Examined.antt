@@ -1,5 +1,5 @@
 -- What examining answers, as the paper's table has it: the refusal of the first rule broken, a sheet exactly when no rule
--- is broken. All of it follows from one law: examining is the verdict on the rules 1 to 4 and 6 to 10 in order.
+-- is broken. All of it follows from one law: examining is the verdict on all rules in order.
 -- Assumes nothing.
 use mathlib.Core.Logic.{_↔_}
 use mathlib.Core.Path.{_≡_, refl, ap, sym, _∙_}
@@ -96,7 +96,7 @@ judge-permitted p x y t = judge-sheet p x y (sheetOf p x y) .1 (t, refl)
 
 -- the fraction's rules are kept; the tank's rules are kept
 abbrev pub FractionKept : Plant → Concentrations → ℕ → Type 0
-FractionKept p x f = T (allKept (fractionRules (reactorOf p x f)))
+FractionKept p x f = T (allKept (fractionRules p x (reactorOf p x f)))
 
 abbrev pub TankKept : Plant → ℕ → ℕ → Type 0
 TankKept p r h = T (allKept (tankRules p (settlingOf p r h)))
@@ -117,7 +117,7 @@ permitted-keeps p x y = (
 )
   where
     rest : List Rule
-    rest = fractionRules (reactorOf p x (y .fraction)) ++ tankRules p (settlingOf p (y .«return_ratio») (y .thickening))
+    rest = fractionRules p x (reactorOf p x (y .fraction)) ++ tankRules p (settlingOf p (y .«return_ratio») (y .thickening))
 
     parts : T (allKept rest) ↔ (FractionKept p x (y .fraction) × TankKept p (y .«return_ratio») (y .thickening))
-    parts = kept-append (fractionRules (reactorOf p x (y .fraction))) (tankRules p (settlingOf p (y .«return_ratio») (y .thickening)))
+    parts = kept-append (fractionRules p x (reactorOf p x (y .fraction))) (tankRules p (settlingOf p (y .«return_ratio») (y .thickening)))

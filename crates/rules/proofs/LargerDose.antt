@@ -1,7 +1,7 @@
 -- A larger dose never loses a permitted candidate, and a choice with it is never larger; of a sheet it moves oxygen and
 -- transfer alone. Assumes nothing.
 use mathlib.Core.Path.{_≡_, refl, ap, sym, subst, _∙_}
-use mathlib.Core.Bool.{true}
+use mathlib.Core.List.{[], _∷_, _++_}
 use Prim.Native.Nat.{ℕ, _+_, _*_, _≤_}
 use native.Mathlib.Omega.{arith}
 use lib.Dec.{T, leb, leb→le, le→leb}
@@ -11,11 +11,13 @@ use Rattle.rules.specs.Rounding.{down}
 use Rattle.rules.specs.Limits.{mostDose}
 use Rattle.rules.specs.Rules.{allKept}
 use Rattle.rules.specs.PlantData.{within, allWithin, figuresWithoutDose, plantInRange}
-use Rattle.rules.specs.Accepting.{valuesOf, readingsRules, dataRules, accept}
+use Rattle.rules.specs.Consent.{termsOf}
+use Rattle.rules.specs.Accepting.{valuesOf, readingsRules, termsRule, dataRules, accept}
 use Rattle.rules.specs.AgeNitrate.{removedByDose, covered}
 use Rattle.rules.specs.ReactorSteps.{sludgeProduction, reactorOf}
 use Rattle.rules.specs.SettlingSteps.{settlingOf}
 use Rattle.rules.specs.AerationSteps.{aerationSaving, aerationOf}
+use Rattle.rules.specs.TermSteps.{termShare, nitrifies, termFraction, termRemoves, termDenitrified, termCovered}
 use Rattle.rules.specs.Examining.{totalOf, sheetFrom, sheetOf, permitted}
 use Rattle.rules.specs.Answers.{sheetFigures}
 use Rattle.rules.specs.Choosing.{candidateTotal, ChosenAccepted, Chosen}
@@ -24,13 +26,15 @@ use Rattle.rules.specs.declared.Plant.{Plant}
 use Rattle.rules.specs.declared.Readings.{Readings}
 use Rattle.rules.specs.declared.Concentrations.{Concentrations}
 use Rattle.rules.specs.declared.Candidate.{Candidate}
+use Rattle.rules.specs.declared.Term.{Term}
 use Rattle.rules.specs.declared.Sheet.{Sheet}
 use Rattle.rules.specs.declared.Acceptance.{Acceptance}
 use Rattle.rules.specs.declared.Answer.{Answer}
 use Rattle.rules.proofs.Tests.{within-between}
 use Rattle.rules.proofs.AcceptedData.{accepted-none-due, none-due-accepted}
 use Rattle.rules.proofs.Examined.{permitted-keeps}
-use Rattle.rules.proofs.NitrateColumns.{fraction-covered}
+use Rattle.rules.proofs.EveryTerm.{every-weaker}
+use Rattle.rules.proofs.NitrateColumns.{fraction-keeps}
 use Rattle.rules.proofs.WiderChoice.{DesignAtMost, wider-choice}
 use Rattle.rules.proofs.NoDose.{in-range-with-dose}
 
@@ -42,23 +46,42 @@ larger-covers removes m n d h t =
     let c : 1000 * d ≤ removes + 1000 * down m 5 = leb→le (1000 * d) (removes + 1000 * down m 5) t in
     le→leb (1000 * d) (removes + 1000 * down n 5) (omega arith)
 
+-- and in a term
+larger-covers-term :
+    (p : Plant) (x : Concentrations) (f : ℕ) (term : Term) (m n : ℕ)
+    → m ≤ n
+    → T (termCovered (withDose m p) x (reactorOf (withDose m p) x f) term)
+    → T (termCovered (withDose n p) x (reactorOf (withDose n p) x f) term)
+unfolding withDose reactorOf termShare termFraction termRemoves termDenitrified termCovered
+larger-covers-term p x f term m n h t =
+    let reactor = reactorOf p x f in
+    larger-covers (termRemoves p x reactor term) m n (termDenitrified reactor term) h t
+
 -- A larger dose never loses a permitted candidate.
 pub larger-dose :
     (p : Plant) (x : Concentrations) (y : Candidate) (m n : ℕ)
     → m ≤ n
     → T (permitted (withDose m p) x y)
     → T (permitted (withDose n p) x y)
-unfolding withDose reactorOf settlingOf
+unfolding withDose reactorOf settlingOf termShare nitrifies termFraction termRemoves termDenitrified
 larger-dose p x y m n h t =
     let k = permitted-keeps (withDose m p) x y .0 t in
+    let own = fraction-keeps (withDose m p) x (y .fraction) .0 (k .fraction) in
     let reactor = reactorOf p x (y .fraction) in
     permitted-keeps (withDose n p) x y .1
     (record {
       grid = k .grid;
       fraction =
-          and-i (covered (reactor .removes) (removedByDose n) (reactor .denitrified)) true
-          (larger-covers (reactor .removes) m n (reactor .denitrified) h (fraction-covered (withDose m p) x (y .fraction) (k .fraction)))
-          tt;
+          fraction-keeps (withDose n p) x (y .fraction) .1
+          (record {
+            covered = larger-covers (reactor .removes) m n (reactor .denitrified) h (own .covered);
+            nitrified = own .nitrified;
+            termsCovered =
+                every-weaker (termCovered (withDose m p) x (reactorOf (withDose m p) x (y .fraction))) (termCovered (withDose n p) x (reactorOf (withDose n p) x (y .fraction)))
+                (termsOf (p .consent))
+                (λ term c. larger-covers-term p x (y .fraction) term m n h c)
+                (own .termsCovered);
+          });
       tank = k .tank;
     })
 
@@ -78,11 +101,12 @@ accepted-with : (p : Plant) (r : Readings) (x : Concentrations) (m n : ℕ) → 
 unfolding withDose dataRules figuresWithoutDose valuesOf
 accepted-with p r x m n h e =
     let given = accepted-none-due (withDose m p) r x e in
-    let plant = subst T (in-range-with-dose (withDose m p)) (and-l (plantInRange (withDose m p)) (allKept (readingsRules p r)) (given .0)) in
+    let later = allKept (readingsRules p r ++ (termsRule p ∷ [])) in
+    let plant = subst T (in-range-with-dose (withDose m p)) (and-l (plantInRange (withDose m p)) later (given .0)) in
     let figures = and-l (allWithin (figuresWithoutDose p)) (within 0 mostDose m) plant in
     let dosed = subst T (sym (in-range-with-dose (withDose n p))) (and-i (allWithin (figuresWithoutDose p)) (within 0 mostDose n) figures (within-between 0 mostDose n .1 (record { least = omega arith; most = h }))) in
     none-due-accepted (withDose n p) r
-    (and-i (plantInRange (withDose n p)) (allKept (readingsRules p r)) dosed (and-r (plantInRange (withDose m p)) (allKept (readingsRules p r)) (given .0)))
+    (and-i (plantInRange (withDose n p)) later dosed (and-r (plantInRange (withDose m p)) later (given .0)))
     ∙ ap Acceptance.Accepted (given .1)
 
 -- Where there is a design with a dose, there is one with every larger dose up to the largest, and no larger.

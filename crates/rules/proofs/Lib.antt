@@ -13,9 +13,15 @@ pub mod CensusLaws
 pub mod CensusOutcomes
 pub mod HighestLoad
 pub mod DayLogLaws
+pub mod EveryTerm
 pub mod NitrateColumns
 pub mod OutcomeLaws
 pub mod WiderChoice
+pub mod OtherAnswers
+pub mod TargetLaws
+pub mod NoTerms
+pub mod DesignFraction
+pub mod DesignTerm
 pub mod NoDose
 pub mod StepsWithoutDose
 pub mod LargerDose

@@ -5,20 +5,26 @@ use mathlib.Core.Path.{_≡_, refl, ap, sym, subst}
 use Prim.Native.Nat.{ℕ, _+_, _-_, _*_, _≤_}
 use native.Mathlib.Omega.{arith}
 use lib.Dec.{T, leb→le, le→leb}
-use lib.Ieee.Fits.{and-l}
+use mathlib.Core.Bool.{Bool, true, _&&_}
+use mathlib.Core.List.{List, [], _∷_}
+use lib.Ieee.Fits.{and-i, and-l, and-r}
 use Rattle.rules.specs.Rounding.{down}
 use Rattle.rules.specs.Accepting.{accept}
 use Rattle.rules.specs.AgeNitrate.{removedByBod, removable, covered}
 use Rattle.rules.specs.ReactorSteps.{reactorOf}
+use Rattle.rules.specs.Consent.{termsOf, every}
+use Rattle.rules.specs.TermSteps.{nitrifies, termRemoves, termDenitrified, termCovered}
 use Rattle.rules.specs.Examining.{permitted, sheetFrom, sheetOf, examine}
 use Rattle.rules.specs.Choosing.{candidateOf, ChosenAccepted, Chosen}
-use Rattle.rules.specs.TwoColumns.{Removes, TwoColumns}
+use Rattle.rules.specs.TwoColumns.{TermColumns, Removes, TwoColumns}
 use Rattle.rules.specs.declared.Plant.{Plant}
 use Rattle.rules.specs.declared.Readings.{Readings}
 use Rattle.rules.specs.declared.Concentrations.{Concentrations}
 use Rattle.rules.specs.declared.Candidate.{Candidate}
 use Rattle.rules.specs.declared.Sheet.{Sheet}
 use Rattle.rules.specs.declared.Acceptance.{Acceptance}
+use Rattle.rules.specs.declared.Reactor.{Reactor}
+use Rattle.rules.specs.declared.Term.{Term}
 use Rattle.rules.specs.declared.Answer.{Answer}
 use Rattle.rules.proofs.Quotients.{le-down}
 use Rattle.rules.proofs.AcceptedData.{accepted-none-due}
@@ -44,17 +50,56 @@ covered-removable removes byDose d =
 abbrev pub Covered : Plant → Concentrations → ℕ → Type 0
 Covered p x f = T (covered (reactorOf p x f .removes) (reactorOf p x f .«removed_by_dose») (reactorOf p x f .denitrified))
 
+-- a fraction keeps its rules: 7, 15 and 16
+pub record FractionKeeps (p : Plant) (x : Concentrations) (f : ℕ) : Type 0 where
+  pub covered : Covered p x f
+  pub nitrified : T (every (nitrifies p (reactorOf p x f)) (termsOf (p .consent)))
+  pub termsCovered : T (every (termCovered p x (reactorOf p x f)) (termsOf (p .consent)))
+
+pub fraction-keeps : (p : Plant) (x : Concentrations) (f : ℕ) → FractionKept p x f ↔ FractionKeeps p x f
+fraction-keeps p x f = (
+  λ t.
+      let later = and-r own (nitrified && (termsCovered && true)) t in
+      record {
+        covered = and-l own (nitrified && (termsCovered && true)) t;
+        nitrified = and-l nitrified (termsCovered && true) later;
+        termsCovered = and-l termsCovered true (and-r nitrified (termsCovered && true) later);
+      },
+  λ k. and-i own (nitrified && (termsCovered && true)) (k .covered) (and-i nitrified (termsCovered && true) (k .nitrified) (and-i termsCovered true (k .termsCovered) tt)),
+)
+  where
+    own : Bool
+    own = covered (reactorOf p x f .removes) (reactorOf p x f .«removed_by_dose») (reactorOf p x f .denitrified)
+
+    nitrified : Bool
+    nitrified = every (nitrifies p (reactorOf p x f)) (termsOf (p .consent))
+
+    termsCovered : Bool
+    termsCovered = every (termCovered p x (reactorOf p x f)) (termsOf (p .consent))
+
 -- a fraction that keeps its rules is covered
 pub fraction-covered : (p : Plant) (x : Concentrations) (f : ℕ) → FractionKept p x f → Covered p x f
-fraction-covered p x f t =
-    and-l (covered (reactorOf p x f .removes) (reactorOf p x f .«removed_by_dose») (reactorOf p x f .denitrified)) _ t
+fraction-covered p x f t = fraction-keeps p x f .0 t .covered
 
--- The law of the two columns, of every permitted candidate.
+-- terms that are covered keep the two columns
+terms-columns : (p : Plant) (x : Concentrations) (reactor : Reactor) (l : List Term) → T (every (termCovered p x reactor) l) → TermColumns p x reactor l
+unfolding termCovered
+terms-columns p x reactor [] t = tt
+terms-columns p x reactor (term ∷ later) t = (
+  covered-removable (termRemoves p x reactor term) (reactor .«removed_by_dose») (termDenitrified reactor term) .0
+      (and-l (termCovered p x reactor term) (every (termCovered p x reactor) later) t),
+  terms-columns p x reactor later (and-r (termCovered p x reactor term) (every (termCovered p x reactor) later) t),
+)
+
+-- The law of the two columns, of every permitted candidate: for the design and in every term of the consent.
 pub two-columns : (p : Plant) (x : Concentrations) (y : Candidate) → T (permitted p x y) → Removes p x (y .fraction)
 two-columns p x y t =
-    covered-removable (reactorOf p x (y .fraction) .removes) (reactorOf p x (y .fraction) .«removed_by_dose») (reactorOf p x (y .fraction) .denitrified)
-    .0
-    (fraction-covered p x (y .fraction) (permitted-keeps p x y .0 t .fraction))
+    let reactor = reactorOf p x (y .fraction) in
+    let kept = fraction-keeps p x (y .fraction) .0 (permitted-keeps p x y .0 t .fraction) in
+    record {
+      design = covered-removable (reactor .removes) (reactor .«removed_by_dose») (reactor .denitrified) .0 (kept .covered);
+      terms = terms-columns p x reactor (termsOf (p .consent)) (kept .termsCovered);
+    }
 
 -- The same of every sheet that examining gives: its data are accepted, its candidate is permitted, and its fraction is
 -- the candidate's.

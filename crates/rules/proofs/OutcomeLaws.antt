@@ -4,16 +4,18 @@ use mathlib.Core.Logic.{inl, inr}
 use mathlib.Core.Path.{_≡_, refl, ap, sym, _∙_, subst}
 use mathlib.Core.Bool.{Bool, true, false, cond}
 use mathlib.Core.List.{List, [], _∷_}
-use Prim.Native.Nat.{ℕ, _≤_, _<_}
+use Prim.Native.Nat.{ℕ, zero, suc, _+_, _≤_, _<_}
 use native.Mathlib.Omega.{arith}
 use lib.Dec.{leb}
 use lib.ListN.{length}
 use borrow.Author.Tests.{leb-true, leb-false}
+use Rattle.rules.specs.Sums.{valuesFrom}
 use Rattle.rules.specs.Rules.{verdict, after}
 use Rattle.rules.specs.Accepting.{valuesOf, dataRules, acceptBy, accept}
 use Rattle.rules.specs.AgeNitrate.{onGrid}
 use Rattle.rules.specs.Examining.{gridRule, examine}
-use Rattle.rules.specs.Answers.{refusalNumber, emptySheet, answerNumber, answerSheet, writtenNumber, writtenCount, explanationNumber, explanationFigures, verdictNumber, sheetFigures, explainedFigures}
+use Rattle.rules.specs.Answers.{refusalNumber, emptySheet, answerNumber, answerSheet, writtenNumber, writtenCount, verdictNumber, sheetFigures}
+use Rattle.rules.specs.Explanations.{explanationNumber, explanationFigures, termFigures, explainedFigures}
 use Rattle.rules.specs.Choosing.{grid, ChosenAccepted, Chosen, Least}
 use Rattle.rules.specs.Explaining.{candidateExplained, explainCandidate, explainAccepted, explain, explanationRules}
 use Rattle.rules.specs.Listing.{listing, writing}
@@ -67,7 +69,13 @@ chosen-outcome p r (Answer.Refused n) h = go (accept p r) refl h
         let given = accepted-none-due p r x q in
         inr (record { refusal = n; isDue = inr (l .0, record { kept = given .0; none = λ y g t. l .1 y g (rw (given .1) at t) }); numbered = refl; zeros = empty-zeros })
 
--- explaining: what a verdict on 1 to 4 and 6 makes of the figures
+-- a list of zeros
+pub zeros : (a n : ℕ) → AllZero (valuesFrom a n (λ k. 0))
+unfolding valuesFrom
+zeros a zero = tt
+zeros a (suc n) = (refl, zeros (a + 1) n)
+
+-- explaining: what a verdict on 1 to 4, 14 and 6 makes of the figures
 explainBy : Verdict → Explained → Explanation
 explainBy Verdict.Kept e = Explanation.Figures e
 explainBy (Verdict.Broken n) e = Explanation.Refused n
@@ -90,7 +98,7 @@ explain-by-rules p r y =
     go (Verdict.Broken n) = refl
 
 pub explained-outcome : (p : Plant) (r : Readings) (y : Candidate) (e : Explanation) → e ≡ explain p r y → ExplainedOutcome p r y (explanationNumber e) (explanationFigures e)
-unfolding explanationNumber explanationFigures explainedFigures verdictNumber explainBy
+unfolding explanationNumber explanationFigures explainedFigures termFigures verdictNumber explainBy valuesFrom
 explained-outcome p r y e q = go (verdict (explanationRules p r y)) refl e (q ∙ explain-by-rules p r y)
   where
     go :
@@ -104,7 +112,7 @@ explained-outcome p r y e q = go (verdict (explanationRules p r y)) refl e (q �
     go (Verdict.Broken m) k (Explanation.Figures f) h = absurd (let z : _≡_ {A = ℕ} 0 1 = cc in omega arith)
     go (Verdict.Broken m) k (Explanation.Refused n) h =
         let same : m ≡ n = cc in
-        inr (record { refusal = n; isDue = broken-verdict (explanationRules p r y) n .1 (k ∙ ap Verdict.Broken same); numbered = refl; zeros = (refl, (refl, (refl, (refl, (refl, (refl, (refl, (refl, (refl, tt))))))))) })
+        inr (record { refusal = n; isDue = broken-verdict (explanationRules p r y) n .1 (k ∙ ap Verdict.Broken same); numbered = refl; zeros = zeros 0 29 })
 
 -- writing
 pub writing-outcome : (a : Answer) (page : List ℕ) (w : Written) → w ≡ writing (listing a) page → WritingOutcome a page (writtenNumber w) (writtenCount w)

@@ -5,6 +5,7 @@ use native.Mathlib.Omega.{arith}
 use mathlib.Core.Bool.{Bool, _&&_}
 use lib.Dec.{T}
 use lib.Ieee.Fits.{and-i, and-l, and-r}
+use Rattle.rules.specs.Consent.{consentValid}
 use Rattle.rules.specs.PlantData.{within, figuresWithoutDose, plantFigures, plantInRange}
 use Rattle.rules.specs.Limits.{leastFraction, mostFraction, leastRatio, mostRatio, leastTime, mostTime}
 use Rattle.rules.specs.AgeNitrate.{largestReturnRatio, onGrid}
@@ -15,9 +16,9 @@ use Rattle.rules.specs.declared.Candidate.{Candidate}
 use Rattle.rules.proofs.Tests.{within-between, AllBetween, all-between, between-all}
 
 -- the facts, from the table's figures in turn
-named : (p : Plant) → AllBetween (plantFigures p) → PlantRanges p
+named : (p : Plant) → AllBetween (plantFigures p) → T (consentValid (p .consent)) → PlantRanges p
 unfolding plantFigures figuresWithoutDose
-named p b =
+named p b valid =
     record {
       load = b .0;
       flow = b .1 .0;
@@ -33,6 +34,7 @@ named p b =
       surface = b .1 .1 .1 .1 .1 .1 .1 .1 .1 .1 .1 .0;
       depth = b .1 .1 .1 .1 .1 .1 .1 .1 .1 .1 .1 .1 .0;
       dose = b .1 .1 .1 .1 .1 .1 .1 .1 .1 .1 .1 .1 .1 .0;
+      consent = valid;
     }
 
 listed : (p : Plant) → PlantRanges p → AllBetween (plantFigures p)
@@ -57,9 +59,17 @@ listed p b = (
   ),
 )
 
-pub plant-ranges : (p : Plant) → T (plantInRange p) ↔ PlantRanges p
+pub plant-ranges : (p : Plant) → (T (plantInRange p) × T (consentValid (p .consent))) ↔ PlantRanges p
 unfolding plantInRange
-plant-ranges p = (λ t. named p (all-between (plantFigures p) t), λ b. between-all (plantFigures p) (listed p b))
+plant-ranges p = (
+  λ t. named p (all-between (plantFigures p) (t .0)) (t .1),
+  λ b. (between-all (plantFigures p) (listed p b), b .consent),
+)
+
+-- where the figures are in their ranges, whatever the consent, the daily flow is above 0
+pub flow-least : (p : Plant) → T (plantInRange p) → 1 ≤ p .flow
+unfolding plantInRange plantFigures figuresWithoutDose
+flow-least p t = all-between (plantFigures p) t .1 .0 .least
 
 -- a candidate is on the grid
 pub record GridRanges (tank : TankFlow) (y : Candidate) : Type 0 where

@@ -53,6 +53,14 @@ verdict-append (r ∷ later) b = go (r .kept) (verdict-append later b)
     go true h = h
     go false h = refl
 
+-- a rule that is kept, at a list's end, changes nothing
+pub verdict-kept-last : (l : List Rule) (r : Rule) → r .kept ≡ true → verdict (l ++ (r ∷ [])) ≡ verdict l
+verdict-kept-last l r e = verdict-append l (r ∷ []) ∙ (ap (λ (b : Bool). after (verdict l) (cond b Verdict.Kept (Verdict.Broken (r .refusal)))) e ∙ same (verdict l))
+  where
+    same : (v : Verdict) → after v Verdict.Kept ≡ v
+    same Verdict.Kept = refl
+    same (Verdict.Broken n) = refl
+
 pub kept-append : (a b : List Rule) → T (allKept (a ++ b)) ↔ (T (allKept a) × T (allKept b))
 kept-append [] b = (λ t. (tt, t), λ t. t .1)
 kept-append (r ∷ later) b = go (r .kept) (kept-append later b)

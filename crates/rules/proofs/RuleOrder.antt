@@ -32,8 +32,11 @@ pub in-order : (p : Plant) (r : Readings) (y : Candidate) → refusals (examinat
     ∷ Refusal.NoNumber ∷ Refusal.ReadingRange
     ∷ Refusal.NoNumber ∷ Refusal.ReadingRange
     ∷ Refusal.CodRatio
+    ∷ Refusal.Terms
     ∷ Refusal.OffGrid
     ∷ Refusal.Nitrate
+    ∷ Refusal.Nitrification
+    ∷ Refusal.TermNitrate
     ∷ Refusal.Solids
     ∷ Refusal.Surface
     ∷ Refusal.Depth
@@ -58,6 +61,9 @@ small n =
       | Refusal.ShortPage ↦ tt
       | Refusal.DayLog ↦ tt
       | Refusal.DayValue ↦ tt
+      | Refusal.Terms ↦ tt
+      | Refusal.Nitrification ↦ tt
+      | Refusal.TermNitrate ↦ tt
     ]
 
 pub refusal-number-between : (n : Refusal) → Between 1 31 (refusalNumber n)

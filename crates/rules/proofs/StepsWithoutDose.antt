@@ -7,9 +7,11 @@ use Rattle.rules.specs.Accepting.{valuesOf}
 use Rattle.rules.specs.ReactorSteps.{sludgeProduction, reactorOf}
 use Rattle.rules.specs.SettlingSteps.{settlingOf}
 use Rattle.rules.specs.AerationSteps.{aerationSaving}
+use Rattle.rules.specs.TermSteps.{termShare, nitrifies, termFraction, termRemoves, termDenitrified}
 use Rattle.rules.specs.Examining.{totalOf, sheetFrom}
 use Rattle.rules.specs.Choosing.{candidateOf, candidateTotal, NotBefore}
-use Rattle.rules.specs.WithoutDose.{withDose, dataRulesWithoutDose, acceptWithoutDose, rulesWithoutDose, permittedWithoutDose, sheetWithoutDose, examineWithoutDose, ChosenAcceptedWithoutDose, ChosenWithoutDose}
+use Rattle.rules.specs.OtherSteps.{acceptWith, permittedWith, examineWith, ChosenAcceptedWith, ChosenWith}
+use Rattle.rules.specs.WithoutDose.{withDose, dataRulesWithoutDose, termCoveredByBod, rulesWithoutDose, sheetWithoutDose, stepsWithoutDose}
 use Rattle.rules.specs.declared.Plant.{Plant}
 use Rattle.rules.specs.declared.Readings.{Readings}
 use Rattle.rules.specs.declared.Concentrations.{Concentrations}
@@ -17,58 +19,54 @@ use Rattle.rules.specs.declared.Candidate.{Candidate}
 use Rattle.rules.specs.declared.Acceptance.{Acceptance}
 use Rattle.rules.specs.declared.Answer.{Answer}
 
--- acceptance, "permitted", sheets and what examining answers
-pub dose-not-looked-at :
-    (p : Plant) (n : ℕ) (r : Readings) (x : Concentrations) (y : Candidate)
-    → (acceptWithoutDose (withDose n p) r ≡ acceptWithoutDose p r)
-    × (permittedWithoutDose (withDose n p) x y ≡ permittedWithoutDose p x y)
-    × (sheetWithoutDose (withDose n p) x y ≡ sheetWithoutDose p x y)
-    × (examineWithoutDose (withDose n p) r y ≡ examineWithoutDose p r y)
+-- what the steps and the totals rest on
+withoutDose : Unit {0}
 unfolding
     withDose
     dataRulesWithoutDose
     figuresWithoutDose
-    acceptWithoutDose
     valuesOf
+    termShare
+    nitrifies
+    termFraction
+    termRemoves
+    termDenitrified
+    termCoveredByBod
     rulesWithoutDose
-    permittedWithoutDose
     sheetWithoutDose
+    stepsWithoutDose
     sheetFrom
+    candidateTotal
     totalOf
-    examineWithoutDose
     reactorOf
     sludgeProduction
     settlingOf
     aerationSaving
+withoutDose = tt
+
+-- acceptance, "permitted", sheets and what examining answers
+pub dose-not-looked-at :
+    (p : Plant) (n : ℕ) (r : Readings) (x : Concentrations) (y : Candidate)
+    → (acceptWith stepsWithoutDose (withDose n p) r ≡ acceptWith stepsWithoutDose p r)
+    × (permittedWith stepsWithoutDose (withDose n p) x y ≡ permittedWith stepsWithoutDose p x y)
+    × (sheetWithoutDose (withDose n p) x y ≡ sheetWithoutDose p x y)
+    × (examineWith stepsWithoutDose (withDose n p) r y ≡ examineWith stepsWithoutDose p r y)
+unfolding withoutDose
 dose-not-looked-at p n r x y = (refl, refl, refl, refl)
 
 not-before : (p : Plant) (x : Concentrations) (n : ℕ) (d y : Candidate) → NotBefore (withDose n p) x d y ↔ NotBefore p x d y
-unfolding withDose candidateTotal totalOf reactorOf sludgeProduction settlingOf
+unfolding withoutDose
 not-before p x n d y = (
   λ h. record { total = h .total; fraction = h .fraction; ratio = h .ratio; time = h .time },
   λ h. record { total = h .total; fraction = h .fraction; ratio = h .ratio; time = h .time },
 )
 
 -- and demand 3 over them
-pub dose-not-looked-at-by-choice : (p : Plant) (n : ℕ) (r : Readings) (a : Answer) → ChosenWithoutDose (withDose n p) r a ↔ ChosenWithoutDose p r a
-unfolding
-    withDose
-    dataRulesWithoutDose
-    figuresWithoutDose
-    acceptWithoutDose
-    valuesOf
-    rulesWithoutDose
-    permittedWithoutDose
-    sheetWithoutDose
-    sheetFrom
-    totalOf
-    reactorOf
-    sludgeProduction
-    settlingOf
-    aerationSaving
-dose-not-looked-at-by-choice p n r a = go a (acceptWithoutDose p r)
+pub dose-not-looked-at-by-choice : (p : Plant) (n : ℕ) (r : Readings) (a : Answer) → ChosenWith stepsWithoutDose (withDose n p) r a ↔ ChosenWith stepsWithoutDose p r a
+unfolding withoutDose
+dose-not-looked-at-by-choice p n r a = go a (acceptWith stepsWithoutDose p r)
   where
-    go : (b : Answer) (o : Acceptance) → ChosenAcceptedWithoutDose (withDose n p) b o ↔ ChosenAcceptedWithoutDose p b o
+    go : (b : Answer) (o : Acceptance) → ChosenAcceptedWith stepsWithoutDose (withDose n p) b o ↔ ChosenAcceptedWith stepsWithoutDose p b o
     go b (Acceptance.Refused i) = (λ h. h, λ h. h)
     go (Answer.Refused i) (Acceptance.Accepted x) = (λ h. h, λ h. h)
     go (Answer.Designed s) (Acceptance.Accepted x) = (

@@ -1,9 +1,10 @@
--- Document 01's rules 1 to 4 in their order, and "accepted": none of them is broken. Assumes nothing.
+-- Document 01's rules 1 to 4 and document 02's 14 in their order, and "accepted": none of them is broken. Assumes nothing.
 use Prim.Native.Nat.{ℕ}
 use mathlib.Core.Bool.{not}
 use mathlib.Core.List.{List, [], _∷_, _++_}
 use Rattle.rules.specs.Rules.{Rule, rule, verdict}
 use Rattle.rules.specs.PlantData.{plantInRange}
+use Rattle.rules.specs.Consent.{consentValid}
 use Rattle.rules.specs.LabReadings.{readingNoNumber, readingInRange, readingValue, codRatioBroken}
 use Rattle.rules.specs.declared.Plant.{Plant}
 use Rattle.rules.specs.declared.PrimarySettling.{PrimarySettling}
@@ -41,9 +42,13 @@ readingsRules p r =
     ++ (readingRules (p .flow) (p .«primary_settling») Parameter.Phosphorus (r .phosphorus)
     ++ (rule Refusal.CodRatio (not (codRatioBroken (valuesOf p r .bod) (valuesOf p r .cod))) ∷ [])))))
 
--- the rules for plant data and readings: 1; then 2 and 3 of each reading in turn; then 4
+-- 14: the terms of the consent are valid
+abbrev pub termsRule : Plant → Rule
+termsRule p = rule Refusal.Terms (consentValid (p .consent))
+
+-- the rules for plant data and readings: 1; then 2 and 3 of each reading in turn; then 4; then 14
 unfoldable pub dataRules : Plant → Readings → List Rule
-dataRules p r = rule Refusal.PlantData (plantInRange p) ∷ readingsRules p r
+dataRules p r = rule Refusal.PlantData (plantInRange p) ∷ (readingsRules p r ++ (termsRule p ∷ []))
 
 -- what a verdict on the rules makes of the readings' values
 unfoldable pub acceptBy : Verdict → Concentrations → Acceptance

@@ -7,8 +7,7 @@ use Rattle.rules.specs.declared.Verdict.{Verdict}
 use Rattle.rules.specs.declared.Acceptance.{Acceptance}
 use Rattle.rules.specs.declared.Answer.{Answer}
 use Rattle.rules.specs.declared.Written.{Written}
-use Rattle.rules.specs.declared.Explained.{Explained}
-use Rattle.rules.specs.declared.Explanation.{Explanation}
+use Rattle.rules.specs.declared.TargetAnswer.{TargetAnswer}
 
 -- the paper's number of each refusal
 abbrev pub refusalNumber : Refusal → ℕ
@@ -25,6 +24,9 @@ refusalNumber Refusal.Depth = 10
 refusalNumber Refusal.ShortPage = 11
 refusalNumber Refusal.DayLog = 12
 refusalNumber Refusal.DayValue = 13
+refusalNumber Refusal.Terms = 14
+refusalNumber Refusal.Nitrification = 15
+refusalNumber Refusal.TermNitrate = 16
 
 -- a sheet of zeros
 unfoldable pub emptySheet : Sheet
@@ -70,26 +72,6 @@ unfoldable pub writtenCount : Written → ℕ
 writtenCount (Written.Bytes n) = n
 writtenCount (Written.Refused r) = 0
 
--- the number and the figures that an explanation carries: 0 and the figures, or the refusal's number and zeros
-unfoldable pub explanationNumber : Explanation → ℕ
-explanationNumber (Explanation.Figures e) = 0
-explanationNumber (Explanation.Refused n) = refusalNumber n
-
-unfoldable pub explanationFigures : Explanation → Explained
-explanationFigures (Explanation.Figures e) = e
-explanationFigures (Explanation.Refused n) =
-    record {
-      denitrified = 0;
-      «removed_by_bod» = 0;
-      «removed_by_dose» = 0;
-      removable = 0;
-      solids = 0;
-      «sludge_volume» = 0;
-      surface = 0;
-      depth = 0;
-      verdict = Verdict.Kept;
-    }
-
 -- the number of a verdict: 0 where every rule is kept
 unfoldable pub verdictNumber : Verdict → ℕ
 verdictNumber Verdict.Kept = 0
@@ -115,16 +97,13 @@ sheetFigures s =
     ∷ s .transfer
     ∷ []
 
--- the figures of an explanation in their order; the last is the number of the first of 7 to 10 that is broken, or 0
-unfoldable pub explainedFigures : Explained → List ℕ
-explainedFigures e =
-    e .denitrified
-    ∷ e .«removed_by_bod»
-    ∷ e .«removed_by_dose»
-    ∷ e .removable
-    ∷ e .solids
-    ∷ e .«sludge_volume»
-    ∷ e .surface
-    ∷ e .depth
-    ∷ verdictNumber (e .verdict)
-    ∷ []
+-- the number and the target that a date is answered with: 0 and the target, 0 and 0 where no term runs, or 14 and 0
+unfoldable pub targetNumber : TargetAnswer → ℕ
+targetNumber (TargetAnswer.InForce n) = 0
+targetNumber TargetAnswer.NoTerm = 0
+targetNumber (TargetAnswer.Refused n) = refusalNumber n
+
+unfoldable pub targetValue : TargetAnswer → ℕ
+targetValue (TargetAnswer.InForce n) = n
+targetValue TargetAnswer.NoTerm = 0
+targetValue (TargetAnswer.Refused n) = 0

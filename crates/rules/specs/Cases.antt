@@ -4,6 +4,7 @@ use Prim.Native.Nat.{ℕ, _*_}
 use mathlib.Core.Path.{_≡_}
 use mathlib.Core.Bool.{false}
 use lib.Ieee.{Float, binary32, round}
+use Rattle.rules.specs.Consent.{noTerms}
 use Rattle.rules.specs.LabReadings.{readingValue}
 use Rattle.rules.specs.Accepting.{accept}
 use Rattle.rules.specs.AgeNitrate.{growth, decay, safetyFactor, aerobicAge, sludgeAge}
@@ -49,6 +50,7 @@ variant flow target surface depth process tank removal =
       removal = removal;
       «primary_settling» = PrimarySettling.None;
       dose = 0;
+      consent = noTerms;
     }
 
 unfoldable pub caseA : Plant

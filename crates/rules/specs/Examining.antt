@@ -1,5 +1,5 @@
--- Document 01, examining: the sheet of a candidate, the rules 6 to 10 in their order, "permitted", and what examining
--- answers. Assumes nothing.
+-- Document 01, examining: the sheet of a candidate, the rules 6 to 10 and document 02's 15 and 16 in their order, "permitted",
+-- and what examining answers. Assumes nothing.
 use Prim.Native.Nat.{ℕ, _+_}
 use mathlib.Core.Bool.{Bool}
 use mathlib.Core.List.{List, [], _∷_, _++_}
@@ -8,6 +8,8 @@ use Rattle.rules.specs.Rules.{Rule, rule, allKept, verdict}
 use Rattle.rules.specs.Accepting.{accept, dataRules, valuesOf}
 use Rattle.rules.specs.AgeNitrate.{onGrid, covered}
 use Rattle.rules.specs.ReactorSteps.{reactorOf, reactorSolids, reactorVolume}
+use Rattle.rules.specs.Consent.{termsOf, every}
+use Rattle.rules.specs.TermSteps.{nitrifies, termCovered}
 use Rattle.rules.specs.SettlingSteps.{settlingOf, solidsKept}
 use Rattle.rules.specs.AerationSteps.{aerationOf}
 use Rattle.rules.specs.declared.Plant.{Plant}
@@ -54,9 +56,14 @@ sheetOf p x y =
     let reactor = reactorOf p x (y .fraction) in
     sheetFrom p y reactor (settlingOf p (y .«return_ratio») (y .thickening)) (aerationOf p x reactor)
 
--- 7, of the fraction alone: the nitrate is covered
-abbrev pub fractionRules : Reactor → List Rule
-fractionRules reactor = rule Refusal.Nitrate (covered (reactor .removes) (reactor .«removed_by_dose») (reactor .denitrified)) ∷ []
+-- 7, 15 and 16, of the fraction alone: the nitrate is covered; nitrification is kept in every term of the consent; the nitrate
+-- is covered in every term
+abbrev pub fractionRules : Plant → Concentrations → Reactor → List Rule
+fractionRules p x reactor =
+    rule Refusal.Nitrate (covered (reactor .removes) (reactor .«removed_by_dose») (reactor .denitrified))
+    ∷ rule Refusal.Nitrification (every (nitrifies p reactor) (termsOf (p .consent)))
+    ∷ rule Refusal.TermNitrate (every (termCovered p x reactor) (termsOf (p .consent)))
+    ∷ []
 
 -- 8 to 10, of the settling tank alone: E ≥ 1,000 and V ≤ 600; the surface, then the depth, at most the site's
 abbrev pub tankRules : Plant → Settling → List Rule
@@ -70,13 +77,13 @@ tankRules p settling =
 abbrev pub gridRule : Plant → Candidate → Rule
 gridRule p y = rule Refusal.OffGrid (onGrid (p .tank) y)
 
--- the rules for a candidate of accepted data, 6 to 10
+-- the rules for a candidate of accepted data: 6, 7, 15, 16, 8 to 10
 unfoldable pub candidateRules : Plant → Concentrations → Candidate → List Rule
 candidateRules p x y =
     gridRule p y
-    ∷ (fractionRules (reactorOf p x (y .fraction)) ++ tankRules p (settlingOf p (y .«return_ratio») (y .thickening)))
+    ∷ (fractionRules p x (reactorOf p x (y .fraction)) ++ tankRules p (settlingOf p (y .«return_ratio») (y .thickening)))
 
--- document 01's "permitted": the candidate keeps the grid, the cover, E, V and both site limits
+-- "permitted": the candidate keeps the grid, the cover, here and in every term of the consent, E, V and both site limits
 unfoldable pub permitted : Plant → Concentrations → Candidate → Bool
 permitted p x y = allKept (candidateRules p x y)
 
@@ -85,7 +92,7 @@ unfoldable pub answerBy : Verdict → Sheet → Answer
 answerBy Verdict.Kept s = Answer.Designed s
 answerBy (Verdict.Broken n) s = Answer.Refused n
 
--- a candidate of accepted data: the refusal of the first rule of 6 to 10 that it breaks, else its sheet
+-- a candidate of accepted data: the refusal of the first of these rules that it breaks, else its sheet
 unfoldable pub judge : Plant → Concentrations → Candidate → Answer
 judge p x y = answerBy (verdict (candidateRules p x y)) (sheetOf p x y)
 
@@ -98,6 +105,6 @@ judgeAccepted p y (Acceptance.Accepted x) = judge p x y
 unfoldable pub examine : Plant → Readings → Candidate → Answer
 examine p r y = judgeAccepted p y (accept p r)
 
--- all the rules that examining goes through, 1 to 4 and 6 to 10
+-- all the rules that examining goes through: those of the data, then those of the candidate
 unfoldable pub examinationRules : Plant → Readings → Candidate → List Rule
 examinationRules p r y = dataRules p r ++ candidateRules p (valuesOf p r) y

@@ -1,12 +1,13 @@
 -- Document 01 as definitions over the whole numbers, in its order: the roundings; plant data and site; lab readings, with
 -- the rules 1 to 4; sludge age and nitrate; sludge and tanks; aeration and recirculation; examining, with the rules 6 to
--- 10, and numbered answers; choosing; the listing; the worked cases. Beside them: the ranges as facts, the two nitrate
--- columns, what explains a candidate, the census of the grid, the day log with its highest two-week load, and document 01's
--- steps without the dose that document 02 added.
+-- 10, and numbered answers; choosing; the listing; the worked cases. From document 02 the dose, and the terms of the consent
+-- with the rules 14 to 16. Beside them: the ranges as facts, the two nitrate columns, what explains a candidate, the census of
+-- the grid, the day log with its highest two-week load, and the steps without a dose and without terms.
 pub mod Rounding
 pub mod Limits
 pub mod Sums
 pub mod PlantData
+pub mod Consent
 pub mod LabReadings
 pub mod Rules
 pub mod Accepting
@@ -14,14 +15,19 @@ pub mod AgeNitrate
 pub mod ReactorSteps
 pub mod SettlingSteps
 pub mod AerationSteps
+pub mod TermSteps
 pub mod Ranges
 pub mod Examining
 pub mod Answers
+pub mod Explanations
 pub mod Choosing
 pub mod Explaining
 pub mod Outcomes
+pub mod TargetOutcome
 pub mod TwoColumns
+pub mod OtherSteps
 pub mod WithoutDose
+pub mod WithoutTerms
 pub mod Census
 pub mod DayLog
 pub mod DayLogOutcome

@@ -1,6 +1,6 @@
--- Numbers that stand in several places, each named once: the ends of the grid, of the plant's temperatures and of the dose, and round
--- limits of the figures for accepted data on the grid, which the arithmetic of the inner functions needs.
--- Assumes nothing.
+-- Numbers that stand in several places, each named once: the ends of the grid, of the plant's and the terms' temperatures, of
+-- the nitrate targets and of the dose, and round limits of the figures for accepted data on the grid, which the arithmetic of
+-- the inner functions needs. Assumes nothing.
 use Prim.Native.Nat.{ℕ}
 
 -- degrees
@@ -9,6 +9,21 @@ leastTemperature = 10
 
 abbrev pub mostTemperature : ℕ
 mostTemperature = 20
+
+-- the lowest temperature of a term of the consent
+abbrev pub leastTermTemperature : ℕ
+leastTermTemperature = 4
+
+-- N3 and the targets of the terms, mg/m3
+abbrev pub leastNitrateTarget : ℕ
+leastNitrateTarget = 1_000
+
+abbrev pub mostNitrateTarget : ℕ
+mostNitrateTarget = 50_000
+
+-- the terms of a consent
+abbrev pub mostTerms : ℕ
+mostTerms = 4
 
 -- f, thousandths
 abbrev pub leastFraction : ℕ
@@ -30,6 +45,10 @@ leastTime = 20
 
 abbrev pub mostTime : ℕ
 mostTime = 25
+
+-- a at a term's temperature, thousandths of a day
+abbrev pub mostTermAge : ℕ
+mostTermAge = 20_000
 
 -- t, thousandths of a day
 abbrev pub mostAge : ℕ

@@ -10,7 +10,8 @@ use lib.ListN.{length}
 use Rattle.rules.specs.Rules.{allKept, FirstBroken}
 use Rattle.rules.specs.Accepting.{valuesOf, dataRules}
 use Rattle.rules.specs.Examining.{sheetOf, permitted, examinationRules}
-use Rattle.rules.specs.Answers.{refusalNumber, sheetFigures, explainedFigures}
+use Rattle.rules.specs.Answers.{refusalNumber, sheetFigures}
+use Rattle.rules.specs.Explanations.{explainedFigures}
 use Rattle.rules.specs.Choosing.{grid, Least}
 use Rattle.rules.specs.Explaining.{candidateExplained, explanationRules}
 use Rattle.rules.specs.Listing.{listing}
@@ -34,7 +35,7 @@ pub record Refuses (due : Refusal → Type 0) (number : ℕ) (figures : List ℕ
   pub numbered : number ≡ refusalNumber refusal
   pub zeros : AllZero figures
 
--- Demands 1 and 2, examining: the complete sheet of a candidate that breaks no rule of 1 to 4 and 6 to 10 ..
+-- Demands 1 and 2, examining: the complete sheet of a candidate that breaks no rule of the data and of candidates ..
 pub record Complete (p : Plant) (r : Readings) (y : Candidate) (number : ℕ) (sheet : Sheet) : Type 0 where
   pub numbered : number ≡ 0
   pub kept : T (allKept (examinationRules p r y))
@@ -63,7 +64,7 @@ ChoosingDue p r n = FirstBroken (dataRules p r) n ⊎ ((n ≡ Refusal.NoDesign) 
 abbrev pub ChosenOutcome : Plant → Readings → ℕ → Sheet → Type 0
 ChosenOutcome p r number sheet = Designs p r number sheet ⊎ Refuses (ChoosingDue p r) number (sheetFigures sheet)
 
--- explaining: the figures of a candidate on the grid of accepted data, or the first refusal of 1 to 4 and 6
+-- explaining: the figures of a candidate on the grid of accepted data, or the first refusal of 1 to 4, 14 and 6
 pub record Explains (p : Plant) (r : Readings) (y : Candidate) (number : ℕ) (figures : Explained) : Type 0 where
   pub numbered : number ≡ 0
   pub kept : T (allKept (explanationRules p r y))

@@ -1,8 +1,10 @@
 -- The ranges of accepted data and of the grid as facts, for the contracts of the inner functions. Those of the plant data
--- and of the grid are the tests of PlantData and AgeNitrate, no more and no less (proofs/RangeFacts.antt); accepted
+-- and of the grid are the tests of PlantData, Consent and AgeNitrate, no more and no less (proofs/RangeFacts.antt); accepted
 -- concentrations are in theirs (proofs/AcceptedData.antt). Assumes nothing.
 use Prim.Native.Nat.{ℕ, _≤_}
-use Rattle.rules.specs.Limits.{leastTemperature, mostTemperature, leastFraction, mostFraction, leastRatio, mostRatio, leastTime, mostTime, mostAge, mostNitrogen, mostRemoves, mostDose, mostRemovedByDose, mostSludge, mostMass, leastSolids, mostSolids, mostSludgeVolume, mostSurface, leastDepth, mostDepth, mostSettlingVolume}
+use Rattle.rules.specs.Limits.{leastTemperature, leastTermTemperature, mostTemperature, leastNitrateTarget, mostNitrateTarget, leastFraction, mostFraction, leastRatio, mostRatio, leastTime, mostTime, mostAge, mostNitrogen, mostRemoves, mostDose, mostRemovedByDose, mostSludge, mostMass, leastSolids, mostSolids, mostSludgeVolume, mostSurface, leastDepth, mostDepth, mostSettlingVolume}
+use lib.Dec.{T}
+use Rattle.rules.specs.Consent.{consentValid}
 use Rattle.rules.specs.declared.Plant.{Plant}
 use Rattle.rules.specs.declared.Concentrations.{Concentrations}
 use Rattle.rules.specs.declared.Candidate.{Candidate}
@@ -14,9 +16,12 @@ pub record Between (low high n : ℕ) : Type 0 where
   pub least : low ≤ n
   pub most : n ≤ high
 
--- a temperature of the plant data; a fraction, a return ratio of either flow and a thickening time of the grid
+-- a temperature of the plant data; one of a term of the consent; a fraction, a return ratio of either flow and a thickening time of the grid
 abbrev pub Temperature : ℕ → Type 0
 Temperature n = Between leastTemperature mostTemperature n
+
+abbrev pub TermTemperature : ℕ → Type 0
+TermTemperature n = Between leastTermTemperature mostTemperature n
 
 abbrev pub GridFraction : ℕ → Type 0
 GridFraction n = Between leastFraction mostFraction n
@@ -27,7 +32,7 @@ GridRatio n = Between leastRatio mostRatio n
 abbrev pub GridTime : ℕ → Type 0
 GridTime n = Between leastTime mostTime n
 
--- the plant and site figures are in their ranges
+-- the plant and site figures are in their ranges, and the terms of the consent are valid
 pub record PlantRanges (p : Plant) : Type 0 where
   pub load : Between 1 100_000 (p .load)
   pub flow : Between 1 200_000 (p .flow)
@@ -35,7 +40,7 @@ pub record PlantRanges (p : Plant) : Type 0 where
   pub design : Temperature (p .«design_temperature»)
   pub aeration : Temperature (p .«aeration_temperature»)
   pub index : Between 50 200 (p .«sludge_volume_index»)
-  pub nitrate : Between 1_000 50_000 (p .«nitrate_target»)
+  pub nitrate : Between leastNitrateTarget mostNitrateTarget (p .«nitrate_target»)
   pub phosphorus : Between 0 100_000 (p .«phosphorus_target»)
   pub carbonPeak : Between 100 300 (p .«carbon_peak»)
   pub nitrogenPeak : Between 100 300 (p .«nitrogen_peak»)
@@ -43,6 +48,7 @@ pub record PlantRanges (p : Plant) : Type 0 where
   pub surface : Between 1 100_000 (p .«site_surface»)
   pub depth : Between 3_000 10_000 (p .«site_depth»)
   pub dose : Between 0 mostDose (p .dose)
+  pub consent : T (consentValid (p .consent))
 
 -- the concentrations are accepted results
 pub record ConcentrationRanges (x : Concentrations) : Type 0 where
@@ -61,7 +67,7 @@ pub record OnGrid (y : Candidate) : Type 0 where
 -- limits of a reactor's figures for accepted data and a fraction of the grid: round numbers that the arithmetic needs
 pub record ReactorBounds (r : Reactor) : Type 0 where
   pub fraction : GridFraction (r .fraction)
-  pub age : r .age ≤ mostAge
+  pub age : Between 1 mostAge (r .age)
   pub nitrified : r .nitrified ≤ mostNitrogen
   pub denitrified : r .denitrified ≤ mostNitrogen
   pub removes : r .removes ≤ mostRemoves

@@ -18,6 +18,14 @@ pub const LEAST_TEMPERATURE: u32 = 10;
 
 pub const MOST_TEMPERATURE: u32 = 20;
 
+pub const LEAST_TERM_TEMPERATURE: u32 = 4;
+
+pub const LEAST_NITRATE_TARGET: u32 = 1_000;
+
+pub const MOST_NITRATE_TARGET: u32 = 50_000;
+
+pub const MOST_TERMS: u32 = 4;
+
 // Step-feed denitrification in two or in three steps.
 pub enum Steps {
     Two,
@@ -58,6 +66,32 @@ pub enum PrimarySettling {
     Long,
 }
 
+// A day of the year.
+pub struct Date {
+    pub month: u32,
+    pub day: u32,
+}
+
+// A term of the consent: it runs from its first to its last day, both included; over the new year where the last day comes
+// before the first.
+pub struct Term {
+    pub first: Date,
+    pub last: Date,
+    // lowest temperature, degrees
+    pub temperature: u32,
+    // mg/m3
+    pub nitrate_target: u32,
+}
+
+// The terms of the consent: the first of the four entries, as many as the count says.
+pub struct Consent {
+    pub count: u32,
+    pub first: Term,
+    pub second: Term,
+    pub third: Term,
+    pub fourth: Term,
+}
+
 // Plant data and site, each figure in document 01's unit.
 pub struct Plant {
     // L, raw BOD5 load, kg/d
@@ -93,6 +127,7 @@ pub struct Plant {
     pub primary_settling: PrimarySettling,
     // external carbon, mg/m3 as COD
     pub dose: u32,
+    pub consent: Consent,
 }
 
 // What a lab reading is of.
@@ -215,6 +250,9 @@ pub enum Refusal {
     ShortPage,
     DayLog,
     DayValue,
+    Terms,
+    Nitrification,
+    TermNitrate,
 }
 
 // What a list of rules says: all of them are kept, or the refusal of the first that is broken.
@@ -241,7 +279,28 @@ pub enum Written {
     Refused(Refusal),
 }
 
-// The figures that explain a candidate, whatever the rules 7 to 10 say of it.
+// What the target of a date is answered with: the lowest target in force, that no term runs, or a refusal.
+pub enum TargetAnswer {
+    InForce(u32),
+    NoTerm,
+    Refused(Refusal),
+}
+
+// The figures that explain a candidate in one term of the consent.
+pub struct TermExplained {
+    // up(1000a / t): what nitrification needs of the sludge age, thousandths
+    pub aerobic_share: u64,
+    // the fraction in the term, thousandths
+    pub fraction: u64,
+    // the term's D, nitrate to be removed, mg/m3
+    pub denitrified: u64,
+    // nitrate that the tank removes with the tank's BOD, mg/m3
+    pub removed_by_bod: u64,
+    // nitrate that the tank can remove, the dose's part included, mg/m3
+    pub removable: u64,
+}
+
+// The figures that explain a candidate, whatever the rules 7 to 10, 15 and 16 say of it.
 pub struct Explained {
     // D, nitrate to be removed, mg/m3
     pub denitrified: u64,
@@ -258,11 +317,16 @@ pub struct Explained {
     pub surface: u64,
     // H, mm
     pub depth: u64,
-    // the first of the rules 7 to 10 that is broken, or none
+    // the first of the rules 7, 15, 16 and 8 to 10 that is broken, or none
     pub verdict: Verdict,
+    // in each term of the consent; zeros past their count
+    pub first: TermExplained,
+    pub second: TermExplained,
+    pub third: TermExplained,
+    pub fourth: TermExplained,
 }
 
-// What explaining a candidate answers: its figures, or one refusal of 1 to 4 and 6.
+// What explaining a candidate answers: its figures, or one refusal of 1 to 4, 14 and 6.
 pub enum Explanation {
     Figures(Explained),
     Refused(Refusal),

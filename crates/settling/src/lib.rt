@@ -193,9 +193,11 @@ fn solids_kept(solids: u64, volume: u64) -> bool
 pub fn tank_verdict(plant: Plant, settling: Settling) -> Verdict
     ensures { λ r. ⌜ r ≡ verdict (tankRules plant settling) ⌝ }
 {
+    let site_surface = plant.site_surface as u64;
+    let site_depth = plant.site_depth as u64;
     let solids = solids_kept(settling.solids, settling.sludge_volume);
-    let surface = settling.surface <= plant.site_surface as u64;
-    let depth = settling.depth <= plant.site_depth as u64;
+    let surface = settling.surface <= site_surface;
+    let depth = settling.depth <= site_depth;
     verdicts::rule(
         solids,
         Refusal::Solids,

@@ -1,5 +1,7 @@
 // Prints the listing of Case A at its candidate.
 use rules::Candidate;
+use rules::Consent;
+use rules::Date;
 use rules::Plant;
 use rules::Precipitant;
 use rules::PrimarySettling;
@@ -8,11 +10,32 @@ use rules::Reading;
 use rules::Readings;
 use rules::Removal;
 use rules::TankFlow;
+use rules::Term;
 use rules::Written;
 ghost use mathlib.Core.Path.{_≡_};
+ghost use Rattle.rules.specs.Consent.{noTerms};
 ghost use Rattle.rules.specs.Cases.{caseA, readingsA, candidate};
 ghost use Rattle.rules.specs.Examining.{examine};
 ghost use Rattle.listing.specs.Pages.{Writes};
+
+// A consent without terms.
+fn consent() -> Consent
+    ensures { λ r. ⌜ r ≡ noTerms ⌝ }
+{
+    let none = Term {
+        first: Date { month: 0, day: 0 },
+        last: Date { month: 0, day: 0 },
+        temperature: 0,
+        nitrate_target: 0,
+    };
+    Consent {
+        count: 0,
+        first: none,
+        second: none,
+        third: none,
+        fourth: none,
+    }
+}
 
 // Case A's plant data and site.
 fn plant() -> Plant
@@ -38,6 +61,7 @@ fn plant() -> Plant
         removal: Removal::Scraper,
         primary_settling: PrimarySettling::None,
         dose: 0,
+        consent: consent(),
     }
 }
 

@@ -10,7 +10,7 @@ use reference::reading::{result_range, Determinand, ORDER};
 use reference::stages::Stages;
 use reference::{accept, Process};
 
-/// The accepted concentrations of a request, if none of 1 to 4 is due.
+/// The accepted concentrations of a request, if none of 1 to 4 and 14 is due.
 pub fn accepted(request: &Request) -> Option<[u64; 5]> {
     let decoded = request.decoded().ok()?;
     accept(&decoded.plant, &decoded.readings).ok()
@@ -57,6 +57,77 @@ pub fn with_dose(random: &mut Random, request: Request) -> Request {
         _ => random.spread(1, MOST_DOSE),
     };
     request.with(DOSE, dose)
+}
+
+/// A term's target set to the lowest that the candidate covers in it, less so
+/// much.
+pub fn on_term_cover(request: Request, place: usize, less: u64) -> Option<Request> {
+    let stages = figures::of_request(&request)?;
+    let removable = stages.terms[place]?.removable;
+    let target = stages.nitrate.to_nitrify.checked_sub(removable + less)?;
+    let inside = (1_000..=50_000).contains(&target);
+    inside.then(|| request.with(term_word(place, TERM_TARGET), target as u32))
+}
+
+/// The dose set to the least that covers a term, less so much.
+pub fn on_term_dose(request: Request, place: usize, less: u32) -> Option<Request> {
+    let term = figures::of_request(&request)?.terms[place]?;
+    let missing = term.to_denitrify.checked_sub(term.by_bod)?;
+    with_dose_for(request, missing, less)
+}
+
+fn date(random: &mut Random) -> (u32, u32) {
+    let month = random.within(1, 12);
+    let days = DAYS[month as usize - 1];
+    let any = random.within(1, days);
+    (month, random.pick(&[1, any, any, days]))
+}
+
+/// A random term, mostly near the design's temperature and not stricter.
+pub fn random_term(random: &mut Random, request: &Request) -> TermWords {
+    let design = request.get(DESIGN_TEMPERATURE);
+    let temperature = match random.within(0, 7) {
+        0 => random.within(4, 20),
+        1 => random.pick(&[4, 12, 13, 20]),
+        _ => random.within(design - 3, (design + 3).min(20)),
+    };
+    let design = request.get(NITRATE_TARGET);
+    let target = match random.within(0, 3) {
+        0 => random.spread(1_000, 50_000),
+        1 => design,
+        _ => random.within(design, 50_000),
+    };
+    let (first, last) = (date(random), date(random));
+    [first.0, first.1, last.0, last.1, temperature, target]
+}
+
+/// Random terms: none in half of the plants; now and then one word of the
+/// consent is odd, past the count or not.
+pub fn with_random_terms(random: &mut Random, request: Request) -> Request {
+    if random.one_in(2) {
+        return request;
+    }
+    let terms = [(); MOST_TERMS].map(|()| random_term(random, &request));
+    let count = random.within(0, MOST_TERMS as u32) as usize;
+    let changed = request.with_terms(&terms[..count]);
+    if random.one_in(8) {
+        let word = random.within(TERM_COUNT as u32, DATA_WORDS as u32 - 1);
+        let odd = [0, 3, 5, 13, 21, 30, 31, 32, 999, 50_001, 1 << 31, u32::MAX];
+        changed.with(word as usize, random.pick(&odd))
+    } else {
+        changed
+    }
+}
+
+/// One of the terms moved on to its cover, by its target or by the dose.
+fn on_some_term(random: &mut Random, request: Request, past: u32) -> Option<Request> {
+    let count = request.get(TERM_COUNT).clamp(1, MOST_TERMS as u32);
+    let place = random.within(0, count - 1) as usize;
+    if random.one_in(2) {
+        on_term_cover(request, place, u64::from(past))
+    } else {
+        on_term_dose(request, place, past)
+    }
 }
 
 /// The site's surface set to the candidate's, less so much.
@@ -164,7 +235,11 @@ pub fn random_on_line(random: &mut Random, tanks: &OnLines) -> Request {
         plant = tank.put_in(plant, flow);
     }
     let plant = with_dose(random, plant);
+    let plant = with_random_terms(random, plant);
     let past = random.within(0, 1);
+    if plant.get(TERM_COUNT) > 0 && random.one_in(2) {
+        return on_some_term(random, plant, past).unwrap_or(plant);
+    }
     let moved = match random.within(0, 7) {
         0 | 1 => on_cover(plant, u64::from(past)),
         2 => on_dose(plant, past),

@@ -1,18 +1,22 @@
 //! What each call of the interface answers, by the reference.
 
-use crate::request::{decode, CHOOSE_LENGTH, EXAMINE_LENGTH};
-use reference::stages::Stages;
+use crate::request::{decode, decode_target, CHOOSE_LENGTH, EXAMINE_LENGTH};
+use reference::stages::{InTerm, Stages};
 use reference::{listing, Answer};
 
 pub const SHORT_PAGE: u32 = reference::refusal::SHORT_PAGE as u32;
 /// Bytes that explaining writes.
 pub const EXPLAIN_PAGE: usize = 8 * FIGURES;
-/// Figures that explaining gives.
-const FIGURES: usize = 9;
+/// Figures that explaining gives: of the candidate, then of each of four terms.
+const FIGURES: usize = OF_CANDIDATE + 4 * OF_TERM;
+const OF_CANDIDATE: usize = 9;
+const OF_TERM: usize = 5;
 /// Bytes that a census writes.
 pub const CENSUS_PAGE: usize = 256;
 /// Bytes that a two-week load writes.
 pub const LOAD_PAGE: usize = 16;
+/// Bytes that a target in force takes.
+pub const TARGET_PAGE: usize = 8;
 
 /// The call's number and the bytes it writes at the start of the page.
 #[derive(Clone, Debug, PartialEq, Eq)]
@@ -52,8 +56,9 @@ pub fn choose(request: &[u8], page_length: usize) -> Outcome {
     }
 }
 
-/// The figures that the rules 7 to 10 ask of, and the number of the first of them that is broken.
-fn judged_by(stages: &Stages, verdict: u8) -> [u64; FIGURES] {
+/// The figures that the rules 7 to 10 ask of, and the number of the first rule
+/// that is broken, a term's included.
+fn of_candidate(stages: &Stages, verdict: u8) -> [u64; OF_CANDIDATE] {
     [
         stages.nitrate.to_denitrify,
         stages.by_bod,
@@ -67,7 +72,27 @@ fn judged_by(stages: &Stages, verdict: u8) -> [u64; FIGURES] {
     ]
 }
 
-/// Nine 64-bit numbers, or a refusal and zeros.
+/// The figures that the rules 15 and 16 ask of; zeros past the count.
+fn of_term(term: &Option<InTerm>) -> [u64; OF_TERM] {
+    match term {
+        None => [0; OF_TERM],
+        Some(term) => [
+            term.aerobic_share,
+            term.fraction,
+            term.to_denitrify,
+            term.by_bod,
+            term.removable,
+        ],
+    }
+}
+
+fn judged_by(stages: &Stages, verdict: u8) -> Vec<u64> {
+    let mut figures = of_candidate(stages, verdict).to_vec();
+    figures.extend(stages.terms.iter().flat_map(of_term));
+    figures
+}
+
+/// The figures as 64-bit numbers, or a refusal and zeros.
 pub fn explain(request: &[u8], page_length: usize) -> Outcome {
     let data = match decode(request, EXAMINE_LENGTH) {
         Err(fault) => return nothing(fault),
@@ -77,7 +102,7 @@ pub fn explain(request: &[u8], page_length: usize) -> Outcome {
         return nothing(SHORT_PAGE);
     }
     let (number, figures) = match reference::explain(&data.plant, &data.readings, data.candidate) {
-        Err(number) => (u32::from(number), [0; FIGURES]),
+        Err(number) => (u32::from(number), vec![0; FIGURES]),
         Ok(stages) => {
             let answer = reference::examine(&data.plant, &data.readings, data.candidate);
             (0, judged_by(&stages, answer.number()))
@@ -115,5 +140,21 @@ pub fn load(log: &[u8], page_length: usize) -> Outcome {
     match reference::two_week_load(log) {
         Err(number) => put(u32::from(number), &[0; LOAD_PAGE / 8]),
         Ok(load) => put(0, &[load.sum, load.day]),
+    }
+}
+
+/// The lowest target in force on a date, 0 where no term runs, or a refusal
+/// and 0.
+pub fn target(request: &[u8], page_length: usize) -> Outcome {
+    let (consent, month, day) = match decode_target(request) {
+        Err(fault) => return nothing(fault),
+        Ok(asked) => asked,
+    };
+    if page_length < TARGET_PAGE {
+        return nothing(SHORT_PAGE);
+    }
+    match reference::target_in_force(&consent, month, day) {
+        Err(number) => put(u32::from(number), &[0]),
+        Ok(target) => put(0, &[target.map_or(0, u64::from)]),
     }
 }

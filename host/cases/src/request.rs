@@ -28,9 +28,22 @@ pub const SOLIDS: usize = 23;
 pub const NITROGEN: usize = 25;
 pub const PHOSPHORUS: usize = 27;
 pub const DOSE: usize = 29;
+pub const TERM_COUNT: usize = 30;
+/// The consent's terms, of six words each.
+pub const TERMS: usize = 31;
+pub const MOST_TERMS: usize = 4;
 
-/// Words of the data: version, plant, readings and dose.
-pub const DATA_WORDS: usize = 30;
+/// Words of a term, counted from its first.
+pub const FIRST_MONTH: usize = 0;
+pub const FIRST_DAY: usize = 1;
+pub const LAST_MONTH: usize = 2;
+pub const LAST_DAY: usize = 3;
+pub const TERM_TEMPERATURE: usize = 4;
+pub const TERM_TARGET: usize = 5;
+pub const TERM_WORDS: usize = 6;
+
+/// Words of the data: version, plant, readings, dose and terms.
+pub const DATA_WORDS: usize = TERMS + MOST_TERMS * TERM_WORDS;
 /// Words of a candidate, which come after the data.
 pub const CANDIDATE_WORDS: usize = 3;
 pub const FRACTION: usize = DATA_WORDS;
@@ -68,6 +81,13 @@ pub const PLANT_RANGES: [(usize, u32, u32); 14] = [
     (DOSE, 0, MOST_DOSE),
 ];
 
+/// Range of a term's temperature and target.
+pub const TERM_RANGES: [(usize, u32, u32); 2] =
+    [(TERM_TEMPERATURE, 4, 20), (TERM_TARGET, 1_000, 50_000)];
+
+/// Days of the months, 29 in February.
+pub const DAYS: [u32; 12] = [31, 29, 31, 30, 31, 30, 31, 31, 30, 31, 30, 31];
+
 /// Words that hold a kind, and the last kind of each.
 pub const KIND_WORDS: [(usize, u32); 10] = [
     (PROCESS, 4),
@@ -87,8 +107,14 @@ pub const EXAMINE_LENGTH: usize = 4 * WORDS;
 /// Bytes of a request to choose.
 pub const CHOOSE_LENGTH: usize = 4 * DATA_WORDS;
 
+/// Words of a request for a target: version, consent, and the date asked for.
+pub const ASKED_MONTH: usize = 2 + MOST_TERMS * TERM_WORDS;
+pub const ASKED_DAY: usize = ASKED_MONTH + 1;
+/// Bytes of a request for a target.
+pub const TARGET_LENGTH: usize = 4 * (ASKED_DAY + 1);
+
 /// The newest version, the only one that is answered.
-pub const NEWEST_VERSION: u32 = 2;
+pub const NEWEST_VERSION: u32 = 3;
 /// The version before it.
 pub const EARLIER_VERSION: u32 = NEWEST_VERSION - 1;
 /// A version that does not exist yet.
@@ -98,6 +124,14 @@ pub const LATER_VERSION: u32 = NEWEST_VERSION + 1;
 pub const WRONG_LENGTH: u32 = 101;
 pub const WRONG_VERSION: u32 = 102;
 pub const UNKNOWN_KIND: u32 = 103;
+
+/// A term as its words.
+pub type TermWords = [u32; TERM_WORDS];
+
+/// The place of a term's word in the request.
+pub fn term_word(term: usize, word: usize) -> usize {
+    TERMS + term * TERM_WORDS + word
+}
 
 #[derive(Clone, Copy, Debug, PartialEq, Eq)]
 pub struct Request(pub [u32; WORDS]);
@@ -125,6 +159,14 @@ impl Request {
         self.with(FRACTION, fraction)
             .with(RETURN_RATIO, return_ratio)
             .with(THICKENING, thickening)
+    }
+
+    /// A consent of these terms; the entries past them are zeros.
+    pub fn with_terms(mut self, terms: &[TermWords]) -> Self {
+        let mut all = [[0; TERM_WORDS]; MOST_TERMS];
+        all[..terms.len()].copy_from_slice(terms);
+        self.0[TERMS..DATA_WORDS].copy_from_slice(all.as_flattened());
+        self.with(TERM_COUNT, terms.len() as u32)
     }
 
     /// The request to examine or to explain.
@@ -213,7 +255,33 @@ fn plant(words: &[u32]) -> Option<Plant> {
         )?,
         primary_settling: choice(&[NoSettling, Short, Long], words[PRIMARY_SETTLING])?,
         dose: words[DOSE],
+        consent: consent(&words[TERM_COUNT..DATA_WORDS]),
     })
+}
+
+fn term(words: &[u32]) -> Term {
+    Term {
+        first_month: words[FIRST_MONTH],
+        first_day: words[FIRST_DAY],
+        last_month: words[LAST_MONTH],
+        last_day: words[LAST_DAY],
+        temperature: words[TERM_TEMPERATURE],
+        nitrate_target: words[TERM_TARGET],
+    }
+}
+
+/// The words of a consent: the number of its terms, then four of them.
+fn consent(words: &[u32]) -> Consent {
+    let mut consent = Consent::none();
+    consent.count = words[0];
+    for (entry, words) in consent
+        .terms
+        .iter_mut()
+        .zip(words[1..].chunks_exact(TERM_WORDS))
+    {
+        *entry = term(words);
+    }
+    consent
 }
 
 fn reading(kind: u32, content: u32) -> Option<Reading> {
@@ -233,9 +301,9 @@ fn readings(words: &[u32]) -> Option<[Reading; 5]> {
     Some(all)
 }
 
-/// A request of the given length, or the number of its fault. The candidate
-/// of a request to choose is zeros.
-pub fn decode(bytes: &[u8], length: usize) -> Result<Decoded, u32> {
+/// The words of a request of the given length, the rest zeros, or the number
+/// of its fault.
+fn words(bytes: &[u8], length: usize) -> Result<[u32; WORDS], u32> {
     let version = bytes.first_chunk().ok_or(WRONG_LENGTH)?;
     if u32::from_le_bytes(*version) != NEWEST_VERSION {
         return Err(WRONG_VERSION);
@@ -247,6 +315,21 @@ pub fn decode(bytes: &[u8], length: usize) -> Result<Decoded, u32> {
     for (word, four) in words.iter_mut().zip(bytes.chunks_exact(4)) {
         *word = u32::from_le_bytes([four[0], four[1], four[2], four[3]]);
     }
+    Ok(words)
+}
+
+/// A consent and the date asked for, month and day, or the number of the
+/// request's fault.
+pub fn decode_target(bytes: &[u8]) -> Result<(Consent, u32, u32), u32> {
+    let words = words(bytes, TARGET_LENGTH)?;
+    let consent = consent(&words[1..ASKED_MONTH]);
+    Ok((consent, words[ASKED_MONTH], words[ASKED_DAY]))
+}
+
+/// A request of the given length, or the number of its fault. The candidate
+/// of a request to choose is zeros.
+pub fn decode(bytes: &[u8], length: usize) -> Result<Decoded, u32> {
+    let words = words(bytes, length)?;
     Ok(Decoded {
         plant: plant(&words).ok_or(UNKNOWN_KIND)?,
         readings: readings(&words).ok_or(UNKNOWN_KIND)?,

@@ -18,7 +18,7 @@ const WANTED: [Wanted; 83] = [
     ("plant past edge, choose", 8, &[1]),
     ("grid edge", 7, &[0, 8]),
     ("off grid", 13, &[6]),
-    ("wrong version", 8, &[102]),
+    ("wrong version", 9, &[102]),
     ("unknown kind", 15, &[103]),
     ("reading edge", 26, PASSED),
     ("reading past edge", 20, &[3]),
@@ -96,6 +96,50 @@ const WANTED: [Wanted; 83] = [
     ("combination, choose", 24, &[0, 5]),
 ];
 
+const WANTED_TERMS: [Wanted; 41] = [
+    ("term edge", 8, &[0]),
+    ("term past edge", 42, &[14]),
+    ("four terms", 2, &[0]),
+    ("too many terms", 7, &[14]),
+    ("invalid term of four", 4, &[14]),
+    ("entries past the count", 7, &[0]),
+    ("one entry more", 6, &[14, 15]),
+    ("1 to 4 before 14", 12, &[1, 2, 3, 4]),
+    ("14 before 5 to 7", 6, &[14]),
+    ("6 before 15", 2, &[6]),
+    ("6 before 16", 2, &[6]),
+    ("7 before 15", 1, &[7]),
+    ("7 before 16", 1, &[7]),
+    ("15 before 16", 4, &[15]),
+    ("15 before 8 to 10", 3, &[15]),
+    ("16 before 8 to 10", 3, &[16]),
+    ("8 to 10 after the terms", 3, &[8, 9, 10]),
+    ("15 of some term", 2, &[15]),
+    ("16 of some term", 2, &[16]),
+    ("term just covered", 35, &[0]),
+    ("term just missed", 35, &[16]),
+    ("term's fraction 200, covered", 5, &[0]),
+    ("term's fraction 200, missed", 5, &[16]),
+    ("term's fraction 199, covered", 5, &[0]),
+    ("term's fraction 199, missed", 10, &[16]),
+    ("difference of 0", 10, &[0]),
+    ("difference of 0, missed", 10, &[16]),
+    ("difference below 0", 10, &[15]),
+    ("a just above t", 9, &[15]),
+    ("growth in a term, covered", 10, &[0]),
+    ("decay in a term, missed", 7, &[16]),
+    ("dose covers a term", 10, &[0]),
+    ("dose misses a term", 10, &[16]),
+    ("term as the design", 7, &[0]),
+    ("term leaves the choice", 5, &[0]),
+    ("term moves the choice", 13, &[0]),
+    ("last fractions cover a term", 5, &[0]),
+    ("no design: term", 5, &[5]),
+    ("last fractions nitrify", 5, &[0]),
+    ("no design: nitrification", 5, &[5]),
+    ("random terms", 12, &[]),
+];
+
 const WANTED_PAGES: [Wanted; 5] = [
     ("exact page", 8, &[0, 1, 5, 9, 10]),
     ("page one byte short", 8, &[11]),
@@ -105,8 +149,8 @@ const WANTED_PAGES: [Wanted; 5] = [
 ];
 
 /// Numbers that each operation must give at least once.
-const EXAMINE_NUMBERS: [u32; 13] = [0, 1, 2, 3, 4, 6, 7, 8, 9, 10, 11, 102, 103];
-const CHOOSE_NUMBERS: [u32; 9] = [0, 1, 2, 3, 4, 5, 11, 102, 103];
+const EXAMINE_NUMBERS: [u32; 16] = [0, 1, 2, 3, 4, 6, 7, 8, 9, 10, 11, 14, 15, 16, 102, 103];
+const CHOOSE_NUMBERS: [u32; 10] = [0, 1, 2, 3, 4, 5, 11, 14, 102, 103];
 
 /// Counts by kind and by operation and number.
 pub struct Summary {
@@ -136,7 +180,8 @@ impl Summary {
     pub fn faults(&self) -> Vec<String> {
         let mut faults = Vec::new();
         let empty = BTreeMap::new();
-        for (kind, least, allowed) in WANTED.iter().chain(&WANTED_PAGES) {
+        let wanted = WANTED.iter().chain(&WANTED_TERMS).chain(&WANTED_PAGES);
+        for (kind, least, allowed) in wanted {
             let found = self.kinds.get(kind).unwrap_or(&empty);
             let count: usize = found.values().sum();
             if count < *least {

@@ -2,7 +2,7 @@
 
 use cases::collection::Case;
 use cases::model::Outcome;
-use cases::{files, groups, plants, request, wanted};
+use cases::{files, groups, model, plants, request, wanted};
 
 fn made() -> (Vec<Case>, Vec<Outcome>) {
     let cases = groups::all().cases;
@@ -38,7 +38,7 @@ fn every_kind_is_there_and_twice_the_same() {
 fn bytes_of_case_a() {
     let bytes = plants::case_a().examine_bytes();
     assert_eq!(bytes.len(), request::EXAMINE_LENGTH);
-    assert_eq!(bytes[..8], [2, 0, 0, 0, 0xb0, 0x04, 0, 0]);
+    assert_eq!(bytes[..8], [3, 0, 0, 0, 0xb0, 0x04, 0, 0]);
     assert_eq!(bytes[76..84], [0, 0, 0, 0, 0, 0, 0x48, 0x43]);
     let dosed = plants::case_a().with(request::DOSE, 0x0004_03a1);
     assert_eq!(dosed.examine_bytes()[116..120], [0xa1, 0x03, 0x04, 0]);
@@ -53,6 +53,99 @@ fn bytes_of_case_a() {
 }
 
 #[test]
+fn bytes_of_terms() {
+    assert_eq!(request::CHOOSE_LENGTH, 220);
+    assert_eq!(request::EXAMINE_LENGTH, 232);
+    let plain = plants::case_a().examine_bytes();
+    assert_eq!(plain[120..220], [0; 100]);
+    let terms = [[11, 1, 3, 31, 8, 0xabcd], [4, 2, 10, 30, 12, 20_000]];
+    let bytes = plants::case_a().with_terms(&terms).examine_bytes();
+    let words: Vec<u32> = bytes[120..172]
+        .chunks_exact(4)
+        .map(|four| u32::from_le_bytes(four.try_into().unwrap()))
+        .collect();
+    let expected = [2, 11, 1, 3, 31, 8, 0xabcd, 4, 2, 10, 30, 12, 20_000];
+    assert_eq!(words, expected);
+    assert_eq!(bytes[144..148], [0xcd, 0xab, 0, 0]);
+    assert_eq!(bytes[172..220], [0; 48]);
+    assert_eq!(bytes[220..], plain[220..]);
+}
+
+/// The last of four terms, whose last word is the last of the data.
+#[test]
+fn terms_decoded() {
+    let mut terms = [[11, 1, 3, 31, 8, 30_000]; 4];
+    terms[3] = [1, 2, 3, 4, 5, 6_000];
+    let data = plants::case_a().with_terms(&terms).decoded().ok().unwrap();
+    let consent = data.plant.consent;
+    assert_eq!(consent.count, 4);
+    let term = consent.terms[3];
+    let (first, last) = (
+        (term.first_month, term.first_day),
+        (term.last_month, term.last_day),
+    );
+    assert_eq!((first, last), ((1, 2), (3, 4)));
+    assert_eq!((term.temperature, term.nitrate_target), (5, 6_000));
+    assert_eq!(consent.terms[0], consent.terms[2]);
+}
+
+/// Case A with a term that is just missed and one that is not nitrified.
+#[test]
+fn terms_explained() {
+    let terms = [[11, 1, 3, 31, 11, 12_999], [11, 1, 3, 31, 8, 30_000]];
+    let request = plants::case_a().with_terms(&terms).examine_bytes();
+    let outcome = model::explain(&request, model::EXPLAIN_PAGE);
+    let figures: Vec<u64> = outcome
+        .written
+        .chunks_exact(8)
+        .map(|eight| u64::from_le_bytes(eight.try_into().unwrap()))
+        .collect();
+    assert_eq!(outcome.number, 0);
+    assert_eq!(figures.len(), 29);
+    assert_eq!(figures[..4], [26_000, 26_000, 0, 26_000]);
+    assert_eq!(figures[8], 15);
+    assert_eq!(figures[9..14], [773, 227, 23_001, 23_000, 23_000]);
+    assert_eq!(figures[14..19], [1_037, 0, 6_000, 0, 0]);
+    assert_eq!(figures[19..], [0; 10]);
+}
+
+/// A winter over the new year and one day of it with a lower target.
+#[test]
+fn targets() {
+    let terms = [[11, 1, 3, 31, 8, 20_000], [12, 24, 12, 24, 4, 9_000]];
+    let request = |count: u32, month: u32, day: u32| -> Vec<u8> {
+        let words = [&[request::NEWEST_VERSION, count], terms.as_flattened()].concat();
+        let zeros = [0; 12];
+        let words = [&words[..], &zeros, &[month, day]].concat();
+        words.iter().flat_map(|word| word.to_le_bytes()).collect()
+    };
+    let answer = |bytes: &[u8], page: usize| {
+        let outcome = model::target(bytes, page);
+        (outcome.number, outcome.written)
+    };
+    for (count, month, day, number, target) in [
+        (2, 2, 29, 0, 20_000u64),
+        (2, 12, 24, 0, 9_000),
+        (2, 4, 1, 0, 0),
+        (1, 12, 24, 0, 20_000),
+        (0, 12, 24, 0, 0),
+        (2, 2, 30, 14, 0),
+        (3, 2, 29, 14, 0),
+        (5, 2, 29, 14, 0),
+    ] {
+        let bytes = request(count, month, day);
+        assert_eq!(bytes.len(), 112);
+        let written = target.to_le_bytes().to_vec();
+        assert_eq!(answer(&bytes, model::TARGET_PAGE), (number, written));
+        assert_eq!(answer(&bytes, model::TARGET_PAGE - 1), (11, Vec::new()));
+        assert_eq!(answer(&bytes[..111], 8), (101, Vec::new()));
+    }
+    let mut earlier = request(2, 2, 30);
+    earlier[0] = 2;
+    assert_eq!(answer(&earlier[..4], 0), (102, Vec::new()));
+}
+
+#[test]
 fn malformed_requests_in_their_order() {
     let plant = plants::case_a()
         .with(request::VERSION, request::LATER_VERSION)
@@ -61,6 +154,8 @@ fn malformed_requests_in_their_order() {
     assert_eq!(fault(&plant.choose_bytes()), Some(102));
     assert_eq!(fault(&plant.examine_bytes()), Some(102));
     assert_eq!(fault(&plant.examine_bytes()[..3]), Some(101));
+    let earlier = plant.with(request::VERSION, request::EARLIER_VERSION);
+    assert_eq!(fault(&earlier.choose_bytes()), Some(102));
     let known = plant.with(request::VERSION, request::NEWEST_VERSION);
     assert_eq!(fault(&known.choose_bytes()), Some(101));
     assert_eq!(fault(&known.examine_bytes()), Some(103));

@@ -11,6 +11,7 @@ pub enum Operation {
     Explain,
     Census,
     Load,
+    Target,
 }
 
 /// Bytes before and after the page that must stay as they were.
@@ -36,6 +37,7 @@ fn call(operation: Operation, request: &[u8], page_length: usize) -> Given {
         Operation::Explain => library::explain(request, page),
         Operation::Census => library::census(request, page),
         Operation::Load => library::load(request, page),
+        Operation::Target => library::target(request, page),
     };
     Given {
         number,
@@ -51,6 +53,7 @@ pub fn expected(operation: Operation, request: &[u8], page_length: usize) -> Out
         Operation::Explain => model::explain(request, page_length),
         Operation::Census => model::census(request, page_length),
         Operation::Load => model::load(request, page_length),
+        Operation::Target => model::target(request, page_length),
     }
 }
 

@@ -5,3 +5,4 @@ pub mod counts;
 pub mod logs;
 pub mod requests;
 pub mod stack;
+pub mod targets;

@@ -2,7 +2,8 @@
 
 use crate::compare::Operation;
 use crate::logs;
-use cases::lines::{on_cover, on_dose, random_on_line, with_dose};
+use crate::targets;
+use cases::lines::{on_cover, on_dose, random_on_line, with_dose, with_random_terms};
 use cases::model::EXPLAIN_PAGE;
 use cases::odd;
 use cases::plants;
@@ -22,11 +23,12 @@ fn small(random: &mut Random) -> Request {
 pub fn sound(random: &mut Random, tanks: &OnLines) -> Request {
     let plant = match random.within(0, 9) {
         0 | 1 => plants::plausible(random),
-        2 => return plants::anything(random),
+        2 => plants::anything(random),
         3 => small(random),
         _ => return random_on_line(random, tanks),
     };
-    with_dose(random, plant)
+    let plant = with_dose(random, plant);
+    with_random_terms(random, plant)
 }
 
 /// A request to choose that mostly gets a design: equal totals are common in
@@ -44,7 +46,7 @@ pub fn with_design(random: &mut Random) -> Request {
         true => on_dose(roomy, random.within(0, 1)),
         false => on_cover(roomy, 0),
     };
-    let covered = line.unwrap_or(roomy);
+    let covered = with_random_terms(random, line.unwrap_or(roomy));
     match random.within(0, 3) {
         0 => plant,
         1 => covered,
@@ -133,6 +135,7 @@ pub fn any(random: &mut Random, tanks: &OnLines, operation: Operation) -> Vec<u8
         Operation::Choose | Operation::Census => request.choose_bytes(),
         Operation::Examine | Operation::Explain => request.examine_bytes(),
         Operation::Load => logs::any(random),
+        Operation::Target => targets::any(random),
     };
     if random.one_in(32) {
         damaged_length(random, bytes)

@@ -8,6 +8,7 @@ use comparison::counts::{in_parts, settle, Found};
 use comparison::logs;
 use comparison::requests;
 use comparison::stack::stack_of;
+use comparison::targets;
 use library::number::*;
 
 const EXAMINATIONS: usize = 50_000;
@@ -18,6 +19,7 @@ const CENSUSES: usize = 320;
 /// Damaged ones among them, on pages of several lengths.
 const ANY_CENSUSES: usize = 960;
 const LOADS: usize = 1_600;
+const TARGETS: usize = 50_000;
 
 /// Random requests of one operation, on pages of several lengths.
 fn random_requests(operation: Operation, seed: u64, count: usize) -> Found {
@@ -44,6 +46,9 @@ fn all_but(not_given: &[u32], least: usize) -> Vec<(u32, usize)> {
         .collect()
 }
 
+/// What a candidate of the grid is refused for.
+const OF_CANDIDATE: [u32; 6] = [NITRATE, NITRIFICATION, TERM_NITRATE, SOLIDS, SURFACE, DEPTH];
+
 #[test]
 fn examinations() {
     let found = random_requests(Operation::Examine, 1_000, EXAMINATIONS);
@@ -53,7 +58,7 @@ fn examinations() {
 #[test]
 fn explanations() {
     let found = random_requests(Operation::Explain, 2_000, EXPLANATIONS);
-    let not_given = [NO_DESIGN, NITRATE, SOLIDS, SURFACE, DEPTH];
+    let not_given = [&[NO_DESIGN], &OF_CANDIDATE[..]].concat();
     settle("explain", &found, &all_but(&not_given, 100));
 }
 
@@ -75,7 +80,7 @@ fn choices() {
         }
         found
     });
-    let not_given = [OFF_GRID, NITRATE, SOLIDS, SURFACE, DEPTH];
+    let not_given = [&[OFF_GRID], &OF_CANDIDATE[..]].concat();
     let mut wanted = all_but(&not_given, 20);
     wanted.extend([(SHEET, 2_000), (NO_DESIGN, 200)]);
     settle("choose", &found, &wanted);
@@ -110,7 +115,7 @@ fn censuses_and_choices() {
 #[test]
 fn any_censuses() {
     let found = random_requests(Operation::Census, 5_000, ANY_CENSUSES);
-    let not_given = [NO_DESIGN, OFF_GRID, NITRATE, SOLIDS, SURFACE, DEPTH];
+    let not_given = [&[NO_DESIGN, OFF_GRID], &OF_CANDIDATE[..]].concat();
     settle("census", &found, &all_but(&not_given, 5));
 }
 
@@ -146,8 +151,42 @@ fn loads_made_to_measure() {
     settle("load, made to measure", &found, &wanted);
 }
 
+#[test]
+fn any_targets() {
+    let found = in_parts(8_000, TARGETS, |seed, share| {
+        let mut random = Random::new(seed);
+        let mut found = Found::default();
+        for _ in 0..share {
+            let bytes = targets::any(&mut random);
+            let length = requests::page_length(&mut random);
+            found.add(compare(Operation::Target, &bytes, length));
+        }
+        found
+    });
+    let wanted = [
+        (SHEET, 30_000),
+        (TERMS, 4_000),
+        (SHORT_PAGE, 500),
+        (BAD_LENGTH, 500),
+        (BAD_VERSION, 500),
+    ];
+    settle("target", &found, &wanted);
+}
+
+/// Each rule of terms and dates just met and just missed.
+#[test]
+fn targets_made_to_measure() {
+    let mut found = Found::default();
+    for request in targets::made_to_measure() {
+        found.add(compare(Operation::Target, &request, 8));
+    }
+    let wanted = [(SHEET, 3_000), (TERMS, 400), (BAD_VERSION, 300)];
+    settle("target, made to measure", &found, &wanted);
+}
+
 /// Every page length up to a few bytes more than the listing, for an
-/// examination, a choice, a refusal, an explanation, a census and a load.
+/// examination, a choice, a refusal, an explanation, a census, a load and a
+/// target.
 #[test]
 fn page_lengths() {
     let plant = cases::plants::case_a();
@@ -164,6 +203,8 @@ fn page_lengths() {
         (Operation::Census, no_load.choose_bytes()),
         (Operation::Load, logs::log(&[(0, 0); 14])),
         (Operation::Load, Vec::new()),
+        (Operation::Target, targets::request(0, &[[0; 6]; 4], (1, 1))),
+        (Operation::Target, targets::request(0, &[[0; 6]; 4], (0, 1))),
     ] {
         let exact = expected(operation, &bytes, 512).written.len();
         for length in 0..=exact + 3 {
@@ -174,10 +215,11 @@ fn page_lengths() {
         "page lengths",
         &found,
         &[
-            (SHEET, 16),
+            (SHEET, 20),
             (PLANT_DATA, 4),
             (OFF_GRID, 8),
             (DAY_LOG, 4),
+            (TERMS, 4),
             (SHORT_PAGE, 900),
         ],
     );
@@ -208,7 +250,7 @@ fn differences_are_reported() {
     let last = outcome.written.len() - 2;
     outcome.written[last] ^= 1;
     let text = agree(Operation::Examine, &bytes, 512, &outcome).unwrap_err();
-    for part in ["02000000b0040000", "transfer 127662;", "transfer 127663;"] {
+    for part in ["03000000b0040000", "transfer 127662;", "transfer 127663;"] {
         assert!(text.contains(part), "{text}");
     }
     let refused = expected(Operation::Examine, &bytes, 0);
@@ -220,15 +262,19 @@ fn differences_are_reported() {
 fn stack_as_stated() {
     let plant = cases::plants::case_a();
     let vertical = plant.with(cases::request::TANK_FLOW, 1);
+    let four = [[11, 1, 3, 31, 11, 13_000]; 4];
+    let seasons = plant.with_terms(&four);
     let log = logs::log(&[(0, 0); 3_660]);
-    for request in [plant, vertical] {
+    let target = targets::request(4, &four, (2, 29));
+    for request in [plant, vertical, seasons] {
         let (examine, choose) = (request.examine_bytes(), request.choose_bytes());
         for (call, bytes, stated) in [
             (library::CHOOSE, &choose, 16_000),
-            (library::EXAMINE, &examine, 2_000),
-            (library::EXPLAIN, &examine, 2_000),
-            (library::CENSUS, &choose, 2_000),
-            (library::LOAD, &log, 2_000),
+            (library::EXAMINE, &examine, 3_000),
+            (library::EXPLAIN, &examine, 3_000),
+            (library::CENSUS, &choose, 3_000),
+            (library::LOAD, &log, 3_000),
+            (library::TARGET, &target, 3_000),
         ] {
             let (_, taken) = stack_of(call, bytes, &mut [0; 512]);
             assert!(

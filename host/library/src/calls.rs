@@ -51,6 +51,10 @@ calls! {
     /// Finds the highest two-week load of the bytes of a day log and writes
     /// the `LOAD_PAGE` bytes of its sum and day.
     load, LOAD: pewgull_load;
+
+    /// Finds the lowest nitrate target in force on the date of a request of
+    /// `TARGET_LENGTH` bytes and writes its `TARGET_PAGE` bytes.
+    target, TARGET: pewgull_target;
 }
 
 fn call(function: Call, request: &[u8], page: &mut [u8]) -> (u32, u64) {

@@ -1,7 +1,7 @@
 //! The page of `census`: 32 64-bit numbers, little-endian, a count for each
 //! number that a candidate can be answered with.
 
-use crate::number::{DEPTH, NITRATE, SHEET, SOLIDS, SURFACE};
+use crate::number::{DEPTH, NITRATE, NITRIFICATION, SHEET, SOLIDS, SURFACE, TERM_NITRATE};
 
 /// Counts of a census, by number.
 const COUNTS: usize = 32;
@@ -9,8 +9,16 @@ const COUNTS: usize = 32;
 pub const CENSUS_LENGTH: usize = 8 * COUNTS;
 
 /// The numbers that a candidate of the grid is answered with: 0 where it is
-/// permitted, else that of the first rule that it breaks.
-pub const COUNTED: [u32; 5] = [SHEET, NITRATE, SOLIDS, SURFACE, DEPTH];
+/// permitted, else that of the first rule that it breaks, in this order.
+pub const COUNTED: [u32; 7] = [
+    SHEET,
+    NITRATE,
+    NITRIFICATION,
+    TERM_NITRATE,
+    SOLIDS,
+    SURFACE,
+    DEPTH,
+];
 
 /// How many candidates of the grid are answered with each number.
 #[derive(Clone, Copy, Debug, PartialEq, Eq)]

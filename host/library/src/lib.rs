@@ -8,16 +8,18 @@ mod load;
 pub mod number;
 mod request;
 pub mod sheet;
+mod terms;
 
-pub use calls::{census, choose, examine, explain, load};
-pub use calls::{Call, CENSUS, CHOOSE, EXAMINE, EXPLAIN, LOAD};
+pub use calls::{census, choose, examine, explain, load, target};
+pub use calls::{Call, CENSUS, CHOOSE, EXAMINE, EXPLAIN, LOAD, TARGET};
 pub use census::{Census, CENSUS_LENGTH, COUNTED};
-pub use figures::{Figures, FIGURES_LENGTH};
+pub use figures::{Figures, TermFigures, FIGURES_LENGTH};
 pub use load::{day_log, Day, Load, LEAST_DAYS, LOAD_PAGE, MOST_BOD, MOST_DAYS, MOST_FLOW};
 pub use request::{
     Candidate, Precipitant, PrimarySettling, Process, Reading, Removal, Request, TankFlow,
     CHOOSE_LENGTH, EXAMINE_LENGTH, EXPLAIN_LENGTH, VERSION,
 };
+pub use terms::{target_from_page, Date, Term, Terms, MOST_TERMS, TARGET_LENGTH, TARGET_PAGE};
 
 /// A page of this length takes every listing.
 pub const PAGE_LENGTH: usize = 512;

@@ -34,13 +34,16 @@ numbers! {
     SHORT_PAGE 11 "short page";
     DAY_LOG 12 "day log";
     DAY_VALUE 13 "day value";
+    TERMS 14 "terms";
+    NITRIFICATION 15 "nitrification";
+    TERM_NITRATE 16 "term nitrate";
     BAD_LENGTH 101 "bad length";
     BAD_VERSION 102 "bad version";
     BAD_KIND 103 "bad kind";
 }
 
-/// Whether a number says that the data, the candidate or the day log are
-/// refused.
+/// Whether a number says that the data, the candidate, the day log or the date
+/// are refused.
 pub fn is_refusal(number: u32) -> bool {
     number != SHEET && number != SHORT_PAGE && number < BAD_LENGTH
 }

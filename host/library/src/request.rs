@@ -1,15 +1,18 @@
 //! A request and its bytes: 32-bit numbers, little-endian, without padding.
 
+use crate::terms::{Terms, TERMS_WORDS};
+
 /// Version of the layout.
-pub const VERSION: u32 = 2;
+pub const VERSION: u32 = 3;
 /// Words of the version, the plant with its site, and its kinds.
 const PLANT_WORDS: usize = 19;
 /// Words of the readings, two each.
 const READING_WORDS: usize = 10;
 /// The word of the dose, which comes after the readings.
 const DOSE_WORDS: usize = 1;
-/// Words of the data, which every request starts with.
-const DATA_WORDS: usize = PLANT_WORDS + READING_WORDS + DOSE_WORDS;
+/// Words of the data, which every request starts with; the terms of the
+/// consent come last.
+const DATA_WORDS: usize = PLANT_WORDS + READING_WORDS + DOSE_WORDS + TERMS_WORDS;
 /// Words of a candidate, which come after the data.
 const CANDIDATE_WORDS: usize = 3;
 /// Bytes of a request to choose.
@@ -130,6 +133,7 @@ pub struct Request {
     pub solids: Reading,
     pub nitrogen: Reading,
     pub phosphorus: Reading,
+    pub terms: Terms,
 }
 
 /// A candidate of the grid, or any other three numbers.
@@ -148,10 +152,12 @@ impl Request {
     pub fn to_choose(&self) -> [u8; CHOOSE_LENGTH] {
         let mut bytes = [0; CHOOSE_LENGTH];
         let (plant, rest) = bytes.split_at_mut(4 * PLANT_WORDS);
-        let (readings, dose) = rest.split_at_mut(4 * READING_WORDS);
+        let (readings, rest) = rest.split_at_mut(4 * READING_WORDS);
+        let (dose, terms) = rest.split_at_mut(4 * DOSE_WORDS);
         put(plant, &self.plant_words());
         put(readings, &self.reading_words());
         put(dose, &[self.dose]);
+        put(terms, &self.terms.words());
         bytes
     }
 
@@ -214,7 +220,7 @@ impl Request {
 }
 
 /// Writes the words over all the bytes, four bytes each.
-fn put(bytes: &mut [u8], words: &[u32]) {
+pub(crate) fn put(bytes: &mut [u8], words: &[u32]) {
     assert_eq!(bytes.len(), 4 * words.len());
     for (place, word) in bytes.chunks_exact_mut(4).zip(words) {
         place.copy_from_slice(&word.to_le_bytes());

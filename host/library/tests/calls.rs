@@ -5,8 +5,9 @@ mod common;
 use common::{case_a, CASE_A_CANDIDATE, CASE_A_LISTING};
 use library::number::*;
 use library::sheet::{candidates, GRID, LINES};
-use library::{census, choose, day_log, examine, explain, load, LOAD_PAGE};
-use library::{Candidate, Census, Day, Figures, Load, Request, TankFlow, VERSION};
+use library::{census, choose, day_log, examine, explain, load, target, target_from_page};
+use library::{Candidate, Census, Date, Day, Figures, Load, Request, TankFlow, Term, TermFigures};
+use library::{Terms, LOAD_PAGE, MOST_TERMS, TARGET_LENGTH, TARGET_PAGE, VERSION};
 use library::{CENSUS_LENGTH, CHOOSE_LENGTH, COUNTED, EXAMINE_LENGTH, FIGURES_LENGTH, PAGE_LENGTH};
 
 const UNTOUCHED: u8 = 0xaa;
@@ -46,6 +47,7 @@ fn explains_case_a() {
         surface: 454,
         depth: 4_537,
         verdict: 0,
+        terms: [TermFigures::default(); MOST_TERMS],
     };
     assert_eq!(Figures::from_page(&page), figures);
 }
@@ -90,6 +92,166 @@ fn a_dose_out_of_range_is_refused() {
     }
 }
 
+/// A term from November to March.
+fn winter(temperature: u32, target: u32) -> Term {
+    Term {
+        first: Date { month: 11, day: 1 },
+        last: Date { month: 3, day: 31 },
+        temperature,
+        target,
+    }
+}
+
+/// Case A with these terms.
+fn with_terms(terms: &[Term]) -> Request {
+    let mut request = case_a();
+    terms.iter().for_each(|term| request.terms.push(*term));
+    request
+}
+
+/// At 8 degrees Case A loses its nitrification, at 11 it removes 23,000 of its
+/// 36,000 mg/m3; 15 is asked of every term before 16 of any.
+#[test]
+fn a_candidate_is_judged_in_every_term() {
+    let (lost, short, kept) = (winter(8, 30_000), winter(11, 12_999), winter(11, 13_000));
+    for (terms, verdict) in [
+        (&[kept][..], SHEET),
+        (&[kept, short], TERM_NITRATE),
+        (&[short, kept, kept, lost], NITRIFICATION),
+    ] {
+        let bytes = with_terms(terms).to_examine(CASE_A_CANDIDATE);
+        assert_eq!(examine(&bytes, &mut [0; PAGE_LENGTH]).0, verdict);
+        let mut page = [UNTOUCHED; FIGURES_LENGTH];
+        assert_eq!(explain(&bytes, &mut page).0, SHEET);
+        let figures = Figures::from_page(&page);
+        assert_eq!(figures.verdict, u64::from(verdict));
+        for (term, figures) in terms.iter().zip(figures.terms) {
+            let in_term = |aerobic_share, fraction, removable| TermFigures {
+                aerobic_share,
+                fraction,
+                nitrate_to_remove: 36_000 - u64::from(term.target),
+                removed_by_bod: removable,
+                nitrate_removable: removable,
+            };
+            let expected = match term.temperature {
+                8 => in_term(1_037, 0, 0),
+                _ => in_term(773, 227, 23_000),
+            };
+            assert_eq!(figures, expected);
+        }
+        let rest = &figures.terms[terms.len()..];
+        assert!(rest.iter().all(|term| *term == TermFigures::default()));
+    }
+}
+
+/// The dose counts in a term too: 23,000 and 200 mg/m3 there.
+#[test]
+fn a_dose_counts_in_a_term() {
+    for (target, verdict) in [(12_800, SHEET), (12_799, TERM_NITRATE)] {
+        let dose = 1_000;
+        let request = Request {
+            dose,
+            ..with_terms(&[winter(11, target)])
+        };
+        let mut page = [UNTOUCHED; FIGURES_LENGTH];
+        explain(&request.to_examine(CASE_A_CANDIDATE), &mut page);
+        let figures = Figures::from_page(&page);
+        assert_eq!(figures.terms[0].removed_by_bod, 23_000);
+        assert_eq!(figures.terms[0].nitrate_removable, 23_200);
+        assert_eq!(figures.verdict, u64::from(verdict));
+    }
+}
+
+#[test]
+fn terms_that_are_not_valid_are_refused() {
+    let five = with_terms(&[winter(12, 10_000); 5]);
+    assert_eq!(five.terms.count, 5);
+    let mut no_day = winter(12, 10_000);
+    no_day.last = Date { month: 2, day: 30 };
+    let mut leap_day = no_day;
+    leap_day.last.day = 29;
+    for (request, number) in [
+        (five, TERMS),
+        (with_terms(&[no_day]), TERMS),
+        (with_terms(&[leap_day]), SHEET),
+        (with_terms(&[winter(3, 10_000)]), TERMS),
+        (with_terms(&[winter(21, 10_000)]), TERMS),
+        (with_terms(&[winter(12, 999)]), TERMS),
+        (with_terms(&[winter(12, 50_001)]), TERMS),
+        (with_terms(&[winter(12, 50_000); 4]), SHEET),
+    ] {
+        let mut page = [UNTOUCHED; PAGE_LENGTH];
+        assert_eq!(choose(&request.to_choose(), &mut page).0, number);
+        let bytes = request.to_examine(CASE_A_CANDIDATE);
+        assert_eq!(explain(&bytes, &mut page).0, number);
+    }
+}
+
+/// Entries from the count on are not looked at.
+#[test]
+fn entries_past_the_count() {
+    let mut request = with_terms(&[winter(3, 0); 4]);
+    request.terms.count = 0;
+    let mut page = [UNTOUCHED; PAGE_LENGTH];
+    let (number, written) = examine(&request.to_examine(CASE_A_CANDIDATE), &mut page);
+    assert_eq!(number, SHEET);
+    assert_eq!(&page[..written as usize], CASE_A_LISTING.as_bytes());
+}
+
+/// What `target` gives on a date, and the target on its page.
+fn asked(terms: &Terms, month: u32, day: u32) -> (u32, u64) {
+    let mut page = [UNTOUCHED; PAGE_LENGTH];
+    let (number, written) = target(&terms.to_target(Date { month, day }), &mut page);
+    assert_eq!(written, TARGET_PAGE as u64);
+    let (page, rest) = page.split_first_chunk().unwrap();
+    assert!(rest.iter().all(|&byte| byte == UNTOUCHED));
+    (number, target_from_page(page))
+}
+
+#[test]
+fn the_target_in_force() {
+    let mut may = winter(15, 9_000);
+    may.first = Date { month: 3, day: 31 };
+    may.last = Date { month: 5, day: 31 };
+    let terms = with_terms(&[winter(8, 20_000), may]).terms;
+    for (month, day, target) in [
+        (10, 31, 0),
+        (11, 1, 20_000),
+        (2, 29, 20_000),
+        (3, 30, 20_000),
+        (3, 31, 9_000),
+        (6, 1, 0),
+    ] {
+        assert_eq!(asked(&terms, month, day), (SHEET, target));
+    }
+    assert_eq!(asked(&Terms::default(), 7, 1), (SHEET, 0));
+}
+
+#[test]
+fn a_refused_target_is_0() {
+    let terms = with_terms(&[winter(8, 20_000)]).terms;
+    for (month, day) in [(2, 30), (13, 1), (0, 0), (12, 32)] {
+        assert_eq!(asked(&terms, month, day), (TERMS, 0));
+    }
+    for terms in [
+        with_terms(&[winter(21, 20_000)]).terms,
+        with_terms(&[winter(8, 20_000); 5]).terms,
+    ] {
+        assert_eq!(asked(&terms, 1, 1), (TERMS, 0));
+    }
+}
+
+#[test]
+fn a_target_needs_its_page() {
+    let mut page = [UNTOUCHED; TARGET_PAGE - 1];
+    for day in [1, 32] {
+        let bytes = Terms::default().to_target(Date { month: 1, day });
+        assert_eq!(target(&bytes, &mut page), (SHORT_PAGE, 0));
+        assert_eq!(target(&bytes, &mut []), (SHORT_PAGE, 0));
+    }
+    assert_eq!(page, [UNTOUCHED; TARGET_PAGE - 1]);
+}
+
 /// Each figure of a page has its place.
 #[test]
 fn each_figure_has_its_place() {
@@ -109,6 +271,17 @@ fn each_figure_has_its_place() {
         figures.depth,
         figures.verdict,
     ];
+    let of_terms = figures.terms.iter().flat_map(|term| {
+        [
+            term.aerobic_share,
+            term.fraction,
+            term.nitrate_to_remove,
+            term.removed_by_bod,
+            term.nitrate_removable,
+        ]
+    });
+    let in_order: Vec<u64> = in_order.into_iter().chain(of_terms).collect();
+    assert_eq!(in_order.len(), 29);
     assert!((0..)
         .zip(in_order)
         .all(|(k, figure)| figure == 1_000_000_007 * k));
@@ -134,9 +307,22 @@ fn the_census_of_case_a() {
     let (number, written) = census(&case_a().to_choose(), &mut page);
     assert_eq!((number, written), (SHEET, CENSUS_LENGTH as u64));
     let counts = Census::from_page(&page);
-    assert_eq!(COUNTED.map(|k| counts.count(k)), [55_476, 27_600, 0, 0, 0]);
+    let expected = [55_476, 27_600, 0, 0, 0, 0, 0];
+    assert_eq!(COUNTED.map(|k| counts.count(k)), expected);
     assert_eq!(counts.permitted(), 55_476);
     assert_eq!((counts.count(32), counts.count(BAD_LENGTH)), (0, 0));
+}
+
+/// A term at 8 degrees asks for a fraction of 325, its target of 35,999 for
+/// one of 460.
+#[test]
+fn the_census_of_case_a_with_a_term() {
+    let mut page = [UNTOUCHED; CENSUS_LENGTH];
+    census(&with_terms(&[winter(8, 35_999)]).to_choose(), &mut page);
+    let counts = Census::from_page(&page);
+    let of_fractions = |fractions: u64| 276 * fractions;
+    let expected = [41, 100, 25, 135, 0, 0, 0].map(of_fractions);
+    assert_eq!(COUNTED.map(|k| counts.count(k)), expected);
 }
 
 /// The eight bytes from 8 k on are the count for k.
@@ -150,7 +336,7 @@ fn each_count_has_its_place() {
     assert!((0..32).all(|k| counts.count(k) == 1_000_000_007 * u64::from(k)));
 }
 
-/// Every candidate is counted, and at one of the five numbers.
+/// Every candidate is counted, and at one of the seven numbers.
 #[test]
 fn a_census_adds_up_to_the_grid() {
     for tank in [TankFlow::Horizontal, TankFlow::Vertical] {
@@ -256,12 +442,10 @@ fn a_load_needs_its_page() {
 fn a_short_page_is_left_alone() {
     let request = case_a().to_examine(CASE_A_CANDIDATE);
     let mut page = [UNTOUCHED; FIGURES_LENGTH - 1];
-    assert_eq!(examine(&request, &mut page), (SHORT_PAGE, 0));
     assert_eq!(explain(&request, &mut page), (SHORT_PAGE, 0));
-    assert_eq!(
-        choose(&request[..CHOOSE_LENGTH], &mut page),
-        (SHORT_PAGE, 0)
-    );
+    let short = &mut page[..CASE_A_LISTING.len() - 1];
+    assert_eq!(examine(&request, short), (SHORT_PAGE, 0));
+    assert_eq!(choose(&request[..CHOOSE_LENGTH], short), (SHORT_PAGE, 0));
     assert_eq!(examine(&request, &mut []), (SHORT_PAGE, 0));
     assert_eq!(page, [UNTOUCHED; FIGURES_LENGTH - 1]);
 }
@@ -286,11 +470,22 @@ fn malformed_requests_have_their_codes() {
         let data = &other[..CHOOSE_LENGTH];
         assert_eq!(choose(data, &mut page), (BAD_VERSION, 0));
         assert_eq!(census(data, &mut page), (BAD_VERSION, 0));
-        // a version of another length, as version 1 was
-        let shorter = &other[..CHOOSE_LENGTH - 4];
+        // a version of another length, as version 2 was
+        let shorter = &other[..CHOOSE_LENGTH - 100];
         assert_eq!(choose(shorter, &mut page), (BAD_VERSION, 0));
         assert_eq!(examine(&other[..4], &mut page), (BAD_VERSION, 0));
         assert_eq!(examine(&other[..3], &mut page), (BAD_LENGTH, 0));
+    }
+    let asked = Terms::default().to_target(Date { month: 1, day: 1 });
+    for length in [0, 3, TARGET_LENGTH - 1] {
+        assert_eq!(target(&asked[..length], &mut page), (BAD_LENGTH, 0));
+    }
+    assert_eq!(target(&good, &mut page), (BAD_LENGTH, 0));
+    let mut earlier = asked;
+    earlier[0] -= 1;
+    for length in [4, TARGET_LENGTH] {
+        assert_eq!(target(&earlier[..length], &mut page), (BAD_VERSION, 0));
+        assert_eq!(target(&earlier[..length], &mut []), (BAD_VERSION, 0));
     }
     let mut unknown_process = good;
     unknown_process[56] = 5;
@@ -316,7 +511,7 @@ fn numbers_rise_and_have_words() {
     assert_eq!(word(NO_DESIGN), Some("no design"));
     assert_eq!(word(99), None);
     let refusals = ALL.iter().filter(|known| is_refusal(known.number));
-    assert_eq!(refusals.count(), 12);
+    assert_eq!(refusals.count(), 15);
 }
 
 #[test]

@@ -4,8 +4,8 @@ mod common;
 
 use common::{case_a, CASE_A_CANDIDATE};
 use library::{
-    Candidate, Precipitant, PrimarySettling, Process, Reading, Removal, Request, TankFlow,
-    CHOOSE_LENGTH, EXAMINE_LENGTH, EXPLAIN_LENGTH,
+    Candidate, Date, Precipitant, PrimarySettling, Process, Reading, Removal, Request, TankFlow,
+    Term, Terms, CHOOSE_LENGTH, EXAMINE_LENGTH, EXPLAIN_LENGTH, TARGET_LENGTH,
 };
 
 fn word(bytes: &[u8], place: usize) -> u32 {
@@ -19,19 +19,20 @@ fn lengths_are_those_of_the_header_for_c() {
         ("CHOOSE", CHOOSE_LENGTH),
         ("EXAMINE", EXAMINE_LENGTH),
         ("EXPLAIN", EXPLAIN_LENGTH),
+        ("TARGET", TARGET_LENGTH),
     ];
     for (call, length) in lengths {
         let line = format!("#define PEWGULL_{call}_LENGTH {length}\n");
         assert!(header.contains(&line), "{line}");
     }
-    assert_eq!(library::FIGURES_LENGTH, 72);
+    assert_eq!(library::FIGURES_LENGTH, 232);
     assert_eq!(library::CENSUS_LENGTH, 256);
 }
 
 #[test]
 fn bytes_of_case_a() {
     let bytes = case_a().to_examine(CASE_A_CANDIDATE);
-    assert_eq!(bytes[0..4], [2, 0, 0, 0]);
+    assert_eq!(bytes[0..4], [3, 0, 0, 0]);
     assert_eq!(bytes[4..8], [0xb0, 0x04, 0, 0], "load 1,200");
     assert_eq!(bytes[8..12], [0x88, 0x13, 0, 0], "flow 5,000");
     assert_eq!(bytes[52..56], [0x88, 0x13, 0, 0], "site depth 5,000");
@@ -39,6 +40,7 @@ fn bytes_of_case_a() {
     assert_eq!(bytes[76..84], [0, 0, 0, 0, 0, 0, 0x48, 0x43], "BOD 200.0");
     assert_eq!(word(&bytes, 28), 0x4100_0000, "phosphorus 8.0");
     assert_eq!(word(&bytes, 29), 0, "no dose");
+    assert_eq!(bytes[120..CHOOSE_LENGTH], [0; 100], "no terms");
     assert_eq!(
         bytes[CHOOSE_LENGTH..],
         [0x2c, 1, 0, 0, 75, 0, 0, 0, 20, 0, 0, 0]
@@ -52,6 +54,54 @@ fn a_request_to_choose_is_the_start_of_one_to_examine() {
         request.to_choose()[..],
         request.to_examine(CASE_A_CANDIDATE)[..CHOOSE_LENGTH]
     );
+}
+
+/// Terms whose words hold so much and one more each.
+fn terms(first: u32) -> Terms {
+    let date = |month: u32| Date {
+        month,
+        day: month + 1,
+    };
+    let term = |place: u32| {
+        let word = first + 1 + 6 * place;
+        Term {
+            first: date(word),
+            last: date(word + 2),
+            temperature: word + 4,
+            target: word + 5,
+        }
+    };
+    Terms {
+        count: first,
+        entries: [0, 1, 2, 3].map(term),
+    }
+}
+
+/// Version, terms and date; a swap shows here too.
+#[test]
+fn bytes_of_a_request_for_a_target() {
+    let bytes = terms(1).to_target(Date { month: 26, day: 27 });
+    assert_eq!(word(&bytes, 0), 3);
+    for place in 1..28 {
+        assert_eq!(word(&bytes, place), place as u32, "word {place}");
+    }
+}
+
+/// A fifth term is counted and leaves the four entries as they are.
+#[test]
+fn terms_are_pushed_in_order() {
+    let four = terms(1).entries;
+    let mut pushed = Terms::default();
+    for (count, term) in (1..).zip(four) {
+        pushed.push(term);
+        assert_eq!(pushed.count, count);
+        assert_eq!(pushed.named(), &four[..count as usize]);
+    }
+    pushed.push(Term::default());
+    assert_eq!((pushed.count, pushed.named()), (5, &four[..]));
+    pushed.count = u32::MAX;
+    pushed.push(Term::default());
+    assert_eq!((pushed.count, pushed.named()), (u32::MAX, &four[..]));
 }
 
 /// Every field holds the number of its word, so that a swap shows.
@@ -77,6 +127,7 @@ fn each_field_has_its_word() {
         nitrogen: Reading::Heads(26),
         phosphorus: Reading::Heads(28),
         dose: 29,
+        terms: terms(30),
         ..Request::default()
     };
     let own = CHOOSE_LENGTH / 4;
@@ -85,7 +136,12 @@ fn each_field_has_its_word() {
         return_ratio: own as u32 + 1,
         thickening: own as u32 + 2,
     });
-    for place in (1..=13).chain([20, 22, 24, 26, 28, 29, own, own + 1, own + 2]) {
+    let terms = 30..own;
+    for place in (1..=13)
+        .chain([20, 22, 24, 26, 28, 29])
+        .chain(terms)
+        .chain([own, own + 1, own + 2])
+    {
         assert_eq!(word(&bytes, place), place as u32, "word {place}");
     }
 }

@@ -1,19 +1,22 @@
 //! The library's answers to the commands, as text and as members of JSON.
 
 use crate::census;
+use crate::consent;
 use crate::explanation;
 use crate::json::{self, Member, Value};
 use library::number::{self, SHEET};
 use library::sheet::candidates;
+use library::{target_from_page, Date, Terms, TARGET_PAGE};
 use library::{Candidate, Load, Request, LOAD_PAGE, PAGE_LENGTH};
 
-/// The library's number, what an answer that is no refusal is called, and
-/// its text and its members.
+/// The library's number, what an answer that is no refusal is called, its
+/// text and its members, and what is to be said of it on standard error.
 pub struct Answer {
     pub number: u32,
     pub kind: &'static str,
     pub text: Vec<u8>,
     pub members: Vec<Member>,
+    pub remark: Option<String>,
 }
 
 /// The answer of `choose`.
@@ -37,6 +40,7 @@ fn listed(number: u32, listing: &[u8]) -> Answer {
         kind: "sheet",
         text: listing.to_vec(),
         members: json::members(&String::from_utf8_lossy(listing)),
+        remark: None,
     }
 }
 
@@ -61,6 +65,7 @@ pub fn census(request: &Request) -> Answer {
         kind: "census",
         text: text.into_bytes(),
         members,
+        remark: None,
     }
 }
 
@@ -78,6 +83,26 @@ pub fn load(log: &[u8]) -> Answer {
         kind: "load",
         members: json::members(&text),
         text: text.into_bytes(),
+        remark: None,
+    }
+}
+
+/// The answer of `target`: the lowest target in force, or 0 with a remark that
+/// no term runs.
+pub fn target(terms: &Terms, date: Date) -> Answer {
+    let mut page = [0; TARGET_PAGE];
+    let (number, _) = library::target(&terms.to_target(date), &mut page);
+    if number != SHEET {
+        return refused(number);
+    }
+    let target = target_from_page(&page);
+    let text = format!("target {target}\n");
+    Answer {
+        number,
+        kind: "target",
+        members: json::members(&text),
+        text: text.into_bytes(),
+        remark: (target == 0).then(|| consent::no_term_runs(terms, date)),
     }
 }
 
@@ -89,9 +114,8 @@ pub fn explain(request: &Request, candidate: Candidate) -> Answer {
         Ok(figures) => figures,
     };
     let verdict = figures.verdict as u32;
-    let lines = explanation::lines(request, &figures);
-    let mut text: String = lines.iter().map(|line| line.text()).collect();
-    text += &format!("verdict {verdict}\n");
+    let lines = explanation::lines(request, candidate, &figures);
+    let text = explanation::text(&lines) + &format!("verdict {verdict}\n");
     let mut members: Vec<Member> = lines.iter().flat_map(|line| line.members()).collect();
     members.push(("verdict".to_string(), Value::Number(verdict.into())));
     members.push(json::text(
@@ -103,5 +127,6 @@ pub fn explain(request: &Request, candidate: Candidate) -> Answer {
         kind: "figures",
         text: text.into_bytes(),
         members,
+        remark: None,
     }
 }

@@ -3,7 +3,7 @@
 use crate::answer::{self, Answer};
 use crate::values;
 use library::sheet::{Side, GRID};
-use library::{Candidate, Request};
+use library::{Candidate, Date, Request, Terms};
 use std::ffi::OsString;
 
 /// What a command takes, and the call that answers it.
@@ -15,6 +15,8 @@ pub enum Action {
     Candidate(fn(&Request, Candidate) -> Answer),
     /// `LOG...`: each day log by itself
     Logs(fn(&[u8]) -> Answer),
+    /// `FILE MM-DD`: the terms of one file and one date
+    Date(fn(&Terms, Date) -> Answer),
 }
 
 pub struct Form {
@@ -50,6 +52,11 @@ pub const COMMANDS: &[Form] = &[
         about: "prints the highest load over 14 consecutive days of a day log",
         action: Action::Logs(answer::load),
     },
+    Form {
+        name: "target",
+        about: "prints the lowest nitrate target in force on a day, by the file's terms",
+        action: Action::Date(answer::target),
+    },
 ];
 
 impl Form {
@@ -59,32 +66,53 @@ impl Form {
             Action::Plants(_) => "FILE...",
             Action::Candidate(_) => "FILE F R H",
             Action::Logs(_) => "[--csv] LOG...",
+            Action::Date(_) => "FILE MM-DD",
         }
     }
 
-    /// Its files, and its candidate where it takes one.
-    fn read(&self, words: &[OsString]) -> Result<(Vec<OsString>, Option<Candidate>), String> {
+    /// Its task, and its files.
+    fn read(&self, words: &[OsString], csv: bool) -> Result<(Task, Vec<OsString>), String> {
         match self.action {
-            Action::Plants(_) | Action::Logs(_) if words.is_empty() => {
-                Err(usage(&format!("expected {} {}", self.name, self.words())))
+            Action::Plants(call) => Ok((Task::Plants(call), self.files(words)?)),
+            Action::Logs(call) => Ok((Task::Logs { call, csv }, self.files(words)?)),
+            Action::Candidate(call) => {
+                let (file, candidate) = file_and_candidate(self.name, words)?;
+                Ok((Task::Candidate(call, candidate), vec![file]))
             }
-            Action::Plants(_) | Action::Logs(_) => Ok((words.to_vec(), None)),
-            Action::Candidate(_) => {
-                let (file, candidate) = one_file(self.name, words)?;
-                Ok((vec![file], Some(candidate)))
+            Action::Date(call) => {
+                let (file, date) = file_and_date(self.name, words)?;
+                Ok((Task::Date(call, date), vec![file]))
             }
+        }
+    }
+
+    /// One file or more.
+    fn files(&self, words: &[OsString]) -> Result<Vec<OsString>, String> {
+        match words.is_empty() {
+            true => Err(usage(&format!("expected {} {}", self.name, self.words()))),
+            false => Ok(words.to_vec()),
         }
     }
 }
 
+/// What is to be done with each file of a command.
+#[derive(Clone, Copy)]
+pub enum Task {
+    Plants(fn(&Request) -> Answer),
+    Candidate(fn(&Request, Candidate) -> Answer, Candidate),
+    Logs {
+        call: fn(&[u8]) -> Answer,
+        /// Day logs are given as text
+        csv: bool,
+    },
+    Date(fn(&Terms, Date) -> Answer, Date),
+}
+
 /// A command with its words.
 pub struct Command {
-    pub action: Action,
+    pub task: Task,
     pub json: bool,
-    /// Day logs are given as text
-    pub csv: bool,
     pub files: Vec<OsString>,
-    pub candidate: Option<Candidate>,
 }
 
 pub enum Order {
@@ -172,18 +200,29 @@ pub fn parse(words: &[OsString]) -> Result<Order, String> {
     if sorted.csv && !matches!(form.action, Action::Logs(_)) {
         return Err(usage("--csv is for the command load alone"));
     }
-    let (files, candidate) = form.read(rest)?;
+    let (task, files) = form.read(rest, sorted.csv)?;
     Ok(Order::Run(Command {
-        action: form.action,
+        task,
         json: sorted.json,
-        csv: sorted.csv,
         files,
-        candidate,
     }))
 }
 
+/// FILE MM-DD.
+fn file_and_date(name: &str, words: &[OsString]) -> Result<(OsString, Date), String> {
+    let [file, date] = words else {
+        return Err(usage(&format!(
+            "expected {name} FILE MM-DD, one file and one date (words given: {})",
+            words.len()
+        )));
+    };
+    let date = values::date(&date.to_string_lossy())
+        .map_err(|wrong| usage(&format!("{wrong}; expected month and day, such as 02-29")))?;
+    Ok((file.clone(), date))
+}
+
 /// FILE F R H.
-fn one_file(name: &str, words: &[OsString]) -> Result<(OsString, Candidate), String> {
+fn file_and_candidate(name: &str, words: &[OsString]) -> Result<(OsString, Candidate), String> {
     let [file, fraction, return_ratio, thickening] = words else {
         return Err(usage(&format!(
             "expected {name} FILE F R H, one file and three numbers (words given: {})",

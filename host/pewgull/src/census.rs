@@ -1,8 +1,10 @@
 //! The census of the grid: its lines, and what to look at first where no
 //! candidate is permitted.
 
-use crate::explanation::least_dose;
-use library::number::{self, DEPTH, NITRATE, SHEET, SOLIDS, SURFACE};
+use crate::explanation::{figures, least_dose, least_dose_of_terms};
+use crate::season;
+use crate::values::{filled, listed};
+use library::number::{self, DEPTH, NITRATE, NITRIFICATION, SHEET, SOLIDS, SURFACE, TERM_NITRATE};
 use library::sheet::GRID;
 use library::{Candidate, Census, Request, TankFlow, CENSUS_LENGTH, COUNTED};
 
@@ -16,10 +18,10 @@ pub fn counts(request: &Request) -> Result<Census, u32> {
 }
 
 /// What the candidates are called that are answered with a number.
-pub fn label(number: u32) -> &'static str {
+pub fn label(number: u32) -> String {
     match number {
-        SHEET => "permitted",
-        _ => number::word(number).unwrap_or("unknown"),
+        SHEET => "permitted".to_string(),
+        _ => number::word(number).unwrap_or("unknown").replace(' ', "-"),
     }
 }
 
@@ -30,25 +32,35 @@ pub fn lines(census: &Census) -> impl Iterator<Item = String> + '_ {
         .map(|&number| format!("{} {}", label(number), census.count(number)))
 }
 
-/// The rule to look at first where none is permitted: the one that stops the
-/// most. Nitrate asks of the fraction alone, the later rules of the tank
-/// alone: where some fraction keeps nitrate, every tank is stopped, and only
-/// another tank or site can help.
-fn first(census: &Census) -> u32 {
-    let every_fraction = census.count(NITRATE) == census.total();
-    let rules = COUNTED.iter().copied().filter(|&rule| match rule {
-        SHEET => false,
-        NITRATE => every_fraction,
-        _ => true,
-    });
-    rules
-        .rev()
-        .max_by_key(|&rule| census.count(rule))
-        .unwrap_or(NITRATE)
+/// The rules that ask of the fraction alone, in their order; the others ask of
+/// the tank alone.
+const OF_FRACTION: [u32; 3] = [NITRATE, NITRIFICATION, TERM_NITRATE];
+
+fn is_of_fraction(rule: u32) -> bool {
+    OF_FRACTION.contains(&rule)
 }
 
-/// A candidate of the largest fraction, which needs the smallest dose: what
-/// the tank's BOD removes never falls with the fraction.
+/// The rule to look at first where none is permitted. Where some fraction keeps
+/// its rules, every tank is stopped, and only another tank or site can help:
+/// the tank's rule that stops the most. Else every fraction is stopped, and
+/// what keeps the earlier rules is stopped by the last: only that can help.
+fn first(census: &Census) -> u32 {
+    let stopping = |rule: &u32| *rule != SHEET && census.count(*rule) > 0;
+    let rules = COUNTED.into_iter().filter(stopping);
+    let (of_fraction, of_tank): (Vec<u32>, Vec<u32>) =
+        rules.partition(|rule| is_of_fraction(*rule));
+    let most = of_tank.iter().rev().max_by_key(|rule| census.count(**rule));
+    *most.or(of_fraction.last()).unwrap_or(&NITRATE)
+}
+
+/// The rules of the fraction before this one that stop any candidate.
+fn earlier(census: &Census, rule: u32) -> Vec<u32> {
+    let before = OF_FRACTION.into_iter().take_while(|other| *other != rule);
+    before.filter(|other| census.count(*other) > 0).collect()
+}
+
+/// A candidate of the largest fraction: what the tank can remove, in a term
+/// too, and the sludge age never fall with the fraction.
 fn largest_fraction(tank: TankFlow) -> Candidate {
     let [fraction, return_ratio, thickening] = &GRID;
     Candidate {
@@ -58,21 +70,42 @@ fn largest_fraction(tank: TankFlow) -> Candidate {
     }
 }
 
+fn at_least(dose: u32) -> String {
+    format!("a dose of at least {dose} mg/m3 as COD")
+}
+
 /// What moves the candidates that nitrate stops, where it stops all; a dose
 /// only where one covers some of them.
 fn nitrate_remedy(request: &Request) -> String {
-    let dose = least_dose(request, largest_fraction(request.tank))
-        .map(|dose| format!(" a dose of at least {dose} mg/m3 as COD,\n "));
+    let candidate = largest_fraction(request.tank);
+    let dose = least_dose_of_terms(request, candidate).or_else(|| least_dose(request, candidate));
+    let dose = dose.map(|dose| format!(" {},", at_least(dose)));
     format!(
         "a looser nitrate-target,{} another process, the readings of nitrogen and bod",
         dose.unwrap_or_default()
     )
 }
 
+/// What moves the candidates of the largest fraction that a term stops.
+fn term_remedy(rule: u32, request: &Request) -> String {
+    let candidate = largest_fraction(request.tank);
+    let Ok(figures) = figures(request, candidate) else {
+        return "the lines 'term'".to_string();
+    };
+    match rule {
+        NITRIFICATION => season::nitrification_keys(request, &figures),
+        _ => {
+            let dose = least_dose_of_terms(request, candidate);
+            season::nitrate_keys(request, &figures, dose.map(at_least))
+        }
+    }
+}
+
 /// What moves the candidates that a rule stops.
 fn remedy(rule: u32, request: &Request) -> String {
     match rule {
         NITRATE => return nitrate_remedy(request),
+        NITRIFICATION | TERM_NITRATE => return term_remedy(rule, request),
         SOLIDS => "another removal, another sludge-volume-index",
         SURFACE => "a larger site-surface, another tank or removal, the wet-weather-flow",
         DEPTH => "a larger site-depth, another tank or removal",
@@ -81,19 +114,35 @@ fn remedy(rule: u32, request: &Request) -> String {
     .to_string()
 }
 
+/// Which rule to look at first, and why that one.
+fn look_first(census: &Census, rule: u32) -> String {
+    let mut text = format!("Look first at {}, which stops the most", label(rule));
+    let others = earlier(census, rule);
+    let stopped: u64 = others.iter().map(|other| census.count(*other)).sum();
+    if stopped > census.count(rule) || (is_of_fraction(rule) && stopped > 0) {
+        let others: Vec<String> = others.into_iter().map(label).collect();
+        text += &format!(" of those that keep {}", listed(&others));
+        text += match rule {
+            NITRIFICATION => {
+                " (a looser nitrate-target or a dose alone cannot help: every fraction is stopped)"
+            }
+            TERM_NITRATE => {
+                " (a looser nitrate-target alone cannot help: every fraction is stopped)"
+            }
+            _ => " (a looser target or a dose alone cannot help: every tank is stopped)",
+        };
+    }
+    text + ":"
+}
+
 /// The lines of a census without a permitted candidate, and where to look.
 pub fn advice(request: &Request, census: &Census) -> String {
-    let mut text: String = lines(census).map(|line| format!("\n  {line}")).collect();
+    let lines: String = lines(census).map(|line| format!("\n  {line}")).collect();
     let rule = first(census);
-    text += &format!("\n  Look first at {}, which stops the most", label(rule));
-    if rule != NITRATE && census.count(NITRATE) > census.count(rule) {
-        text += " of those that keep the nitrate\n  \
-                 (a looser nitrate-target or a dose alone cannot help: every tank is stopped)";
-    }
-    text + &format!(
-        ":\n  {}.\n  'pewgull explain FILE F R H' shows how far a candidate is from its limits",
-        remedy(rule, request)
-    )
+    lines
+        + &filled(&look_first(census, rule))
+        + &filled(&format!("{}.", remedy(rule, request)))
+        + "\n  'pewgull explain FILE F R H' shows how far a candidate is from its limits"
 }
 
 #[cfg(test)]
@@ -101,7 +150,7 @@ mod tests {
     use super::*;
 
     /// A census of these counts, nitrate first, with none permitted.
-    fn stopped(counts: [u64; 4]) -> Census {
+    fn stopped(counts: [u64; 6]) -> Census {
         let mut page = [0; CENSUS_LENGTH];
         for (rule, count) in COUNTED[1..].iter().zip(counts) {
             let place = 8 * *rule as usize;
@@ -112,12 +161,46 @@ mod tests {
 
     #[test]
     fn the_rule_to_look_at_first() {
-        assert_eq!(first(&stopped([9, 0, 0, 0])), NITRATE);
-        assert_eq!(first(&stopped([0, 3, 2, 2])), SOLIDS);
-        assert_eq!(first(&stopped([1, 2, 4, 3])), SURFACE);
-        assert_eq!(first(&stopped([1, 2, 3, 4])), DEPTH);
-        assert_eq!(first(&stopped([9, 0, 1, 2])), DEPTH);
-        assert_eq!(first(&stopped([9, 1, 1, 1])), SOLIDS);
+        for (counts, rule) in [
+            ([9, 0, 0, 0, 0, 0], NITRATE),
+            ([0, 0, 0, 3, 2, 2], SOLIDS),
+            ([1, 0, 0, 2, 4, 3], SURFACE),
+            ([1, 0, 0, 2, 3, 4], DEPTH),
+            ([9, 0, 0, 0, 1, 2], DEPTH),
+            ([9, 0, 0, 1, 1, 1], SOLIDS),
+            ([0, 9, 0, 0, 0, 0], NITRIFICATION),
+            ([8, 1, 0, 0, 0, 0], NITRIFICATION),
+            ([0, 0, 9, 0, 0, 0], TERM_NITRATE),
+            ([7, 8, 1, 0, 0, 0], TERM_NITRATE),
+            ([3, 3, 3, 0, 0, 1], DEPTH),
+        ] {
+            assert_eq!(first(&stopped(counts)), rule, "{counts:?}");
+        }
+    }
+
+    #[test]
+    fn why_that_rule() {
+        let told = |counts| {
+            let census = stopped(counts);
+            look_first(&census, first(&census))
+        };
+        for (counts, words) in [
+            ([9, 0, 0, 0, 0, 0], "at nitrate, which stops the most:"),
+            ([0, 9, 0, 0, 0, 0], "nitrification, which stops the most:"),
+            ([1, 0, 0, 2, 4, 3], "at surface, which stops the most:"),
+            ([8, 1, 0, 0, 0, 0], "of those that keep nitrate (a looser"),
+            ([0, 8, 1, 0, 0, 0], "of those that keep nitrification ("),
+            (
+                [7, 8, 1, 0, 0, 0],
+                "of those that keep nitrate and nitrification (a looser nitrate-target alone",
+            ),
+            (
+                [3, 0, 3, 0, 0, 1],
+                "of those that keep nitrate and term-nitrate (a looser target or a dose alone",
+            ),
+        ] {
+            assert!(told(counts).contains(words), "{}", told(counts));
+        }
     }
 
     #[test]
@@ -126,7 +209,7 @@ mod tests {
         let mut remedies: Vec<String> = COUNTED[1..].iter().map(|rule| of(*rule)).collect();
         remedies.sort();
         remedies.dedup();
-        assert_eq!(remedies.len(), 4);
+        assert_eq!(remedies.len(), 5);
         assert!(!remedies.contains(&of(SHEET)));
     }
 }

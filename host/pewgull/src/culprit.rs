@@ -1,9 +1,11 @@
-//! Which key a refusal of 1 to 4 is due to. The number is the library's: here
-//! the key is only looked for, and nothing is said where the finding is
+//! Which key a refusal of 1 to 4 or 14 is due to. The number is the library's:
+//! here the key is only looked for, and nothing is said where the finding is
 //! another number.
 
+use crate::consent;
 use crate::keys::{Field, Key, Range, HEADS, KEYS};
-use library::number::{COD_RATIO, NO_NUMBER, PLANT_DATA, READING_RANGE};
+use crate::plant_file::PlantFile;
+use library::number::{COD_RATIO, NO_NUMBER, PLANT_DATA, READING_RANGE, TERMS};
 use library::{Reading, Request};
 
 /// What a reading comes to.
@@ -25,7 +27,8 @@ const PER_HEAD: [[u32; 3]; 5] = [
 ];
 
 /// Lines that name the keys a refusal is due to, or none.
-pub fn lines(number: u32, request: &Request) -> Vec<String> {
+pub fn lines(number: u32, file: &PlantFile) -> Vec<String> {
+    let request = &file.request;
     let outside = outside(request);
     if number == PLANT_DATA || !outside.is_empty() {
         return if number == PLANT_DATA {
@@ -35,9 +38,17 @@ pub fn lines(number: u32, request: &Request) -> Vec<String> {
         };
     }
     let results = results(request);
-    match results.iter().find_map(Outcome::fault) {
-        Some((found, line)) if found == number => vec![line],
-        None if number == COD_RATIO => cod_ratio(&results[0], &results[1]),
+    if let Some((found, line)) = results.iter().find_map(Outcome::fault) {
+        return if found == number {
+            vec![line]
+        } else {
+            Vec::new()
+        };
+    }
+    let ratio = cod_ratio(&results[0], &results[1]);
+    match number {
+        COD_RATIO => ratio,
+        TERMS if ratio.is_empty() => consent::faults(file),
         _ => Vec::new(),
     }
 }

@@ -1,14 +1,20 @@
 //! The figures that a candidate is judged by, beside their limits.
 
 use crate::json::{Member, Value};
-use library::number::{DEPTH, NITRATE, SHEET, SOLIDS, SURFACE};
-use library::{explain, Candidate, Figures, Request, FIGURES_LENGTH};
+use library::number::{DEPTH, NITRATE, NITRIFICATION, SHEET, SOLIDS, SURFACE, TERM_NITRATE};
+use library::sheet::GRID;
+use library::{explain, Candidate, Figures, Request, TermFigures, FIGURES_LENGTH};
 use Side::{AtLeast, AtMost};
 
 /// Least solids, g/m3.
 pub const LEAST_SOLIDS: u64 = 1_000;
 /// Largest diluted sludge volume, l/m3.
 pub const MOST_SLUDGE_VOLUME: u64 = 600;
+/// Largest aerobic share of a term, thousandths of the sludge age.
+pub const MOST_AEROBIC_SHARE: u64 = 1_000;
+/// Least fraction of a term at which the tank's BOD removes nitrate,
+/// thousandths.
+pub const LEAST_FRACTION: u64 = 200;
 /// Parts of the dose, as COD, that remove one part of nitrate.
 const COD_PER_NITRATE: u64 = 5;
 
@@ -21,15 +27,68 @@ pub fn figures(request: &Request, candidate: Candidate) -> Result<Figures, u32> 
     }
 }
 
+/// The figures of the request's terms, in their order.
+pub fn terms<'a>(request: &Request, figures: &'a Figures) -> &'a [TermFigures] {
+    &figures.terms[..request.terms.named().len()]
+}
+
 /// The least dose, mg/m3 as COD, with which the candidate's nitrate is
 /// covered: reckoned from its figures, and told only where the library accepts
 /// that dose and finds the nitrate covered with it.
 pub fn least_dose(request: &Request, candidate: Candidate) -> Option<u32> {
     let now = figures(request, candidate).ok()?;
     let left = now.nitrate_to_remove.saturating_sub(now.removed_by_bod);
+    confirmed(request, candidate, left, &[NITRATE])
+}
+
+/// The same for the nitrate in every term too.
+pub fn least_dose_of_terms(request: &Request, candidate: Candidate) -> Option<u32> {
+    let now = figures(request, candidate).ok()?;
+    let left = now.nitrate_to_remove.saturating_sub(now.removed_by_bod);
+    let in_terms = terms(request, &now)
+        .iter()
+        .map(|term| term.nitrate_to_remove.saturating_sub(term.removed_by_bod));
+    let left = in_terms.fold(left, u64::max);
+    let rules = [NITRATE, NITRIFICATION, TERM_NITRATE];
+    confirmed(request, candidate, left, &rules)
+}
+
+/// The dose that removes so much nitrate, where the candidate keeps the rules
+/// with it.
+fn confirmed(request: &Request, candidate: Candidate, left: u64, rules: &[u32]) -> Option<u32> {
     let dose = u32::try_from(left.saturating_mul(COD_PER_NITRATE)).ok()?;
     let dosed = figures(&Request { dose, ..*request }, candidate).ok()?;
-    (dosed.verdict != u64::from(NITRATE)).then_some(dose)
+    let broken = rules.iter().any(|rule| dosed.verdict == u64::from(*rule));
+    (!broken).then_some(dose)
+}
+
+/// The lowest target with which a term's nitrate is covered, mg/m3, by its
+/// place: reckoned and confirmed like the least dose.
+pub fn least_target(request: &Request, candidate: Candidate, place: usize) -> Option<u32> {
+    let now = figures(request, candidate).ok()?.terms[place];
+    let missing = now.nitrate_to_remove.saturating_sub(now.nitrate_removable);
+    let mut looser = *request;
+    let target = &mut looser.terms.entries[place].target;
+    *target = target.checked_add(u32::try_from(missing).ok()?)?;
+    let least = *target;
+    let then = figures(&looser, candidate).ok()?.terms[place];
+    (then.nitrate_to_remove <= then.nitrate_removable).then_some(least)
+}
+
+/// The least larger fraction with which no term loses its nitrification, as
+/// the library finds it.
+pub fn least_fraction(request: &Request, candidate: Candidate) -> Option<u32> {
+    let most = GRID[0].most(request.tank);
+    (candidate.fraction + 1..=most).find(|&fraction| {
+        let larger = Candidate {
+            fraction,
+            ..candidate
+        };
+        figures(request, larger).is_ok_and(|figures| {
+            let kept = |term: &TermFigures| term.aerobic_share <= MOST_AEROBIC_SHARE;
+            terms(request, &figures).iter().all(kept)
+        })
+    })
 }
 
 enum Side {
@@ -46,25 +105,33 @@ struct Limit {
 
 /// One figure, and its limit where it has one of its own.
 pub struct Line {
-    label: &'static str,
+    label: String,
     figure: u64,
     unit: &'static str,
     limit: Option<Limit>,
 }
 
 /// A figure without a limit.
-fn line(label: &'static str, figure: u64, unit: &'static str) -> Line {
+fn line(label: &str, figure: u64, unit: &'static str) -> Line {
     Line {
-        label,
+        label: label.to_string(),
         figure,
         unit,
         limit: None,
     }
 }
 
-/// The eight lines, the two nitrate columns first; the right one is the sum
-/// of its parts.
-pub fn lines(request: &Request, figures: &Figures) -> [Line; 8] {
+/// The eight lines of the design, the two nitrate columns first; the right one
+/// is the sum of its parts. Then the five of each term.
+pub fn lines(request: &Request, candidate: Candidate, figures: &Figures) -> Vec<Line> {
+    let mut lines = Vec::from(design(request, figures));
+    for (place, term) in terms(request, figures).iter().enumerate() {
+        lines.extend(in_term(place + 1, candidate, term));
+    }
+    lines
+}
+
+fn design(request: &Request, figures: &Figures) -> [Line; 8] {
     let Figures {
         nitrate_to_remove: remove,
         removed_by_bod: by_bod,
@@ -75,6 +142,7 @@ pub fn lines(request: &Request, figures: &Figures) -> [Line; 8] {
         surface,
         depth,
         verdict: _,
+        terms: _,
     } = *figures;
     let site_surface = u64::from(request.site_surface);
     let site_depth = u64::from(request.site_depth);
@@ -88,6 +156,35 @@ pub fn lines(request: &Request, figures: &Figures) -> [Line; 8] {
         line("surface", surface, "m2").held(AtMost, site_surface, SURFACE),
         line("depth", depth, "mm").held(AtMost, site_depth, DEPTH),
     ]
+}
+
+/// The lines of a term: its fraction is at most the candidate's.
+fn in_term(number: usize, candidate: Candidate, term: &TermFigures) -> [Line; 5] {
+    let TermFigures {
+        aerobic_share: share,
+        fraction,
+        nitrate_to_remove: remove,
+        removed_by_bod: by_bod,
+        nitrate_removable: removable,
+    } = *term;
+    let of = |label: &str, figure: u64, unit: &'static str| {
+        line(&format!("term-{number}-{label}"), figure, unit)
+    };
+    let whole = u64::from(candidate.fraction);
+    [
+        of("aerobic-share", share, "thousandths").held(AtMost, MOST_AEROBIC_SHARE, NITRIFICATION),
+        of("fraction", fraction, "thousandths").held(AtMost, whole, NITRIFICATION),
+        of("to-remove", remove, "mg/m3").held(AtMost, removable, TERM_NITRATE),
+        of("removed-by-bod", by_bod, "mg/m3"),
+        of("removable", removable, "mg/m3").held(AtLeast, remove, TERM_NITRATE),
+    ]
+}
+
+/// The lines as text, their columns one below the other.
+pub fn text(lines: &[Line]) -> String {
+    let unit = lines.iter().map(|line| line.unit.len()).max();
+    let texts = lines.iter().map(|line| line.text(unit.unwrap_or(0)));
+    texts.collect()
 }
 
 impl Limit {
@@ -123,9 +220,10 @@ impl Line {
         Line { limit, ..self }
     }
 
-    /// Label, figure, limit, unit, and whether the limit is kept.
-    pub fn text(&self) -> String {
-        let (label, figure, unit) = (self.label, self.figure, self.unit);
+    /// Label, figure, limit, unit in so many columns, and whether the limit is
+    /// kept.
+    fn text(&self, columns: usize) -> String {
+        let (label, figure, unit) = (&self.label, self.figure, self.unit);
         let (side, value, verdict) = match &self.limit {
             Some(limit) => (
                 limit.words(),
@@ -134,13 +232,14 @@ impl Line {
             ),
             None => Default::default(),
         };
-        let line = format!("{label:<23} {figure:>8}  {side:<8} {value:>8} {unit:<5}  {verdict}");
+        let line =
+            format!("{label:<23} {figure:>8}  {side:<8} {value:>8} {unit:<columns$}  {verdict}");
         line.trim_end().to_string() + "\n"
     }
 
     /// The figure, and its limit as `label-at-most` or `label-at-least`.
     pub fn members(&self) -> Vec<Member> {
-        let figure = (self.label.to_string(), Value::Number(self.figure));
+        let figure = (self.label.clone(), Value::Number(self.figure));
         let limit = self.limit.as_ref().map(|limit| {
             let side = limit.words().replace(' ', "-");
             let key = format!("{}-{side}", self.label);

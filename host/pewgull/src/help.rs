@@ -2,10 +2,10 @@
 
 use crate::arguments::COMMANDS;
 use crate::census;
-use crate::keys::{Field, HEADS, KEYS};
+use crate::keys::{Field, HEADS, KEYS, TERM_TARGET, TERM_TEMPERATURE, TERM_WORDS};
 use library::number;
 use library::sheet::{GRID, LINES};
-use library::{COUNTED, KIT, VERSION};
+use library::{COUNTED, KIT, MOST_TERMS, VERSION};
 use library::{LEAST_DAYS, MOST_BOD, MOST_DAYS, MOST_FLOW};
 
 fn usage() -> String {
@@ -52,7 +52,7 @@ pub fn short() -> String {
          FILE     a plant file: text, one 'key value' per line, # starts a comment;\n         \
          - is standard input; examples/case-a.plant has every key\n\
          LOG      a day log; with --csv a text file, flow and BOD in a line for each day\n\
-         {}\n{STATUS}\
+         {}{STATUS}\
          Example: pewgull examine examples/case-a.plant 300 75 20\n",
         usage(),
         commands(),
@@ -73,6 +73,8 @@ pub fn manual() -> String {
         COUNTED.map(census::label).join(", ")
     );
     text += &day_log();
+    text += "\nThe line of a target\n  \
+             target         lowest nitrate target in force that day, mg/m3; 0: no term runs\n";
     text += &keys();
     text += "\nThe refusals\n";
     for refusal in number::ALL {
@@ -94,22 +96,37 @@ fn keys() -> String {
                 format!("  {name:<21} {meaning:<25} {ends:<12} {unit}\n")
             }
             Field::Word(words, _) => format!("  {name:<21} {}\n", wrapped(words, 24)),
+            Field::Term => format!("  {name:<21} {meaning:<25} {TERM_WORDS}\n"),
         };
     }
     text + &format!(
         "May be left out, with the value that then counts: {}.\n\
          A reading is 'measured X', 'below X' (half of X counts) or 'heads N', N in\n\
          {}; X in mg/l, or bits: and the eight hex digits of an f32. Its range is\n\
-         that of the concentration that comes out.\n",
+         that of the concentration that comes out.\n{}",
         optional(),
-        HEADS.digits()
+        HEADS.digits(),
+        term()
+    )
+}
+
+/// What a term's line holds.
+fn term() -> String {
+    format!(
+        "A term is a line of its own, at most {MOST_TERMS} of them: first and last day, both\n\
+         included, over the new year where the last comes before the first; the lowest\n\
+         temperature, {} {}; the nitrate target, {} {}.\n",
+        TERM_TEMPERATURE.digits(),
+        TERM_TEMPERATURE.unit,
+        TERM_TARGET.digits(),
+        TERM_TARGET.unit
     )
 }
 
 /// The keys that may be left out, with their values.
 fn optional() -> String {
     let values = KEYS.iter().filter_map(|key| {
-        let value = key.default?;
+        let value = key.left_out()?;
         Some(format!("{} {value}", key.name))
     });
     values.collect::<Vec<_>>().join(", ")

@@ -37,24 +37,35 @@ pub enum Field {
     Word(&'static [&'static str], fn(&mut Request, usize)),
     /// A lab reading whose result is in this range
     Reading(Range, fn(&mut Request) -> &mut Reading),
+    /// A term of the consent, one more with each line
+    Term,
+}
+
+/// How often a key is given.
+#[derive(Clone, Copy)]
+pub enum Given {
+    /// Once
+    Once,
+    /// Once, or left out: this value counts then
+    OnceOr(&'static str),
+    /// As often as there are such lines, in their order
+    Often,
 }
 
 pub struct Key {
     pub name: &'static str,
     pub meaning: &'static str,
     pub field: Field,
-    /// The value that counts where the key is left out; without one the key
-    /// has to be given
-    pub default: Option<&'static str>,
+    pub given: Given,
 }
 
 const fn required(name: &'static str, meaning: &'static str, field: Field) -> Key {
-    let default = None;
+    let given = Given::Once;
     Key {
         name,
         meaning,
         field,
-        default,
+        given,
     }
 }
 
@@ -114,21 +125,38 @@ const PROCESS_WORDS: &[&str] = &[
     "step-feed-three",
 ];
 
-const DEGREES: (u32, u32, &str) = (10, 20, "degrees Celsius");
+/// Range of the design temperature and of the aeration temperature.
+pub const DEGREES: (u32, u32, &str) = (10, 20, "degrees Celsius");
+const NITRATE: (u32, u32, &str) = (1_000, 50_000, "mg/m3");
 const PEAK: (u32, u32, &str) = (100, 300, "hundredths");
 /// Largest dose of external carbon, mg/m3 as COD.
 pub const MOST_DOSE: u32 = 500_000;
 const DOSE: (u32, u32, &str) = (0, MOST_DOSE, "mg/m3 as COD");
 
+/// Range of a term's lowest temperature.
+pub const TERM_TEMPERATURE: Range = Range {
+    least: 4,
+    most: 20,
+    unit: "degrees Celsius",
+};
+/// Range of a term's nitrate target, which is that of the design's.
+pub const TERM_TARGET: Range = Range {
+    least: NITRATE.0,
+    most: NITRATE.1,
+    unit: NITRATE.2,
+};
+/// The words of a term's line after the key.
+pub const TERM_WORDS: &str = "MM-DD MM-DD TEMPERATURE TARGET";
+
 #[rustfmt::skip]
-pub const KEYS: [Key; 24] = [
+pub const KEYS: [Key; 25] = [
     whole("load", "raw BOD5 load", (1, 100_000, "kg/d"), |r| &mut r.load),
     whole("flow", "daily flow", (1, 200_000, "m3/d"), |r| &mut r.flow),
     whole("wet-weather-flow", "wet weather flow", (1, 50_000, "m3/h"), |r| &mut r.wet_weather_flow),
     whole("design-temperature", "design temperature", DEGREES, |r| &mut r.design_temperature),
     whole("aeration-temperature", "aeration temperature", DEGREES, |r| &mut r.aeration_temperature),
     whole("sludge-volume-index", "sludge volume index", (50, 200, "l/kg"), |r| &mut r.sludge_volume_index),
-    whole("nitrate-target", "nitrate target", (1_000, 50_000, "mg/m3"), |r| &mut r.nitrate_target),
+    whole("nitrate-target", "nitrate target", NITRATE, |r| &mut r.nitrate_target),
     whole("phosphorus-target", "phosphorus target", (0, 100_000, "mg/m3"), |r| &mut r.phosphorus_target),
     whole("carbon-peak", "carbon peak factor", PEAK, |r| &mut r.carbon_peak),
     whole("nitrogen-peak", "nitrogen peak factor", PEAK, |r| &mut r.nitrogen_peak),
@@ -146,13 +174,29 @@ pub const KEYS: [Key; 24] = [
     reading("nitrogen", "nitrogen", (0, 500), |r| &mut r.nitrogen),
     reading("phosphorus", "phosphorus", (0, 100), |r| &mut r.phosphorus),
     whole("dose", "dose of external carbon", DOSE, |r| &mut r.dose).optional("0"),
+    required("term", "term of the consent", Field::Term).repeated(),
 ];
 
 impl Key {
     /// The same key, which may be left out: this value counts then.
     const fn optional(self, value: &'static str) -> Key {
-        let default = Some(value);
-        Key { default, ..self }
+        let given = Given::OnceOr(value);
+        Key { given, ..self }
+    }
+
+    /// The same key, which may be given often.
+    const fn repeated(self) -> Key {
+        let given = Given::Often;
+        Key { given, ..self }
+    }
+
+    /// What counts where the key is left out, for one that may be.
+    pub fn left_out(&self) -> Option<&'static str> {
+        match self.given {
+            Given::Once => None,
+            Given::OnceOr(value) => Some(value),
+            Given::Often => Some("none"),
+        }
     }
 
     /// What the key takes, in words.
@@ -173,6 +217,14 @@ impl Key {
                 HEADS.most,
                 range.digits()
             ),
+            Field::Term => format!(
+                "'{name} {TERM_WORDS}': first and last day, lowest temperature of {} {}, \
+                 nitrate target of {} {}",
+                TERM_TEMPERATURE.digits(),
+                TERM_TEMPERATURE.unit,
+                TERM_TARGET.digits(),
+                TERM_TARGET.unit
+            ),
         }
     }
 
@@ -182,6 +234,7 @@ impl Key {
             Field::Whole(_, field) => *field(request) = values::whole(single(value)?)?,
             Field::Word(words, set) => set(request, place(words, single(value)?)?),
             Field::Reading(_, field) => *field(request) = values::reading(value)?,
+            Field::Term => request.terms.push(values::term(value)?),
         }
         Ok(())
     }
@@ -247,7 +300,7 @@ mod tests {
     #[test]
     fn a_default_is_a_value_of_its_key() {
         for key in &KEYS {
-            if let Some(value) = key.default {
+            if let Given::OnceOr(value) = key.given {
                 let words: Vec<&str> = value.split(' ').collect();
                 assert_eq!(key.put(&mut Request::default(), &words), Ok(()));
             }

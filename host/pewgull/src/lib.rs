@@ -3,6 +3,7 @@
 pub mod answer;
 pub mod arguments;
 pub mod census;
+pub mod consent;
 pub mod culprit;
 pub mod day_file;
 pub mod explanation;
@@ -13,5 +14,6 @@ pub mod load;
 pub mod plant_file;
 pub mod refusal;
 pub mod run;
+pub mod season;
 pub mod text_file;
 pub mod values;

@@ -1,9 +1,9 @@
 //! A plant file: one `key value` per line, `#` starts a comment.
 
-use crate::keys::{self, KEYS};
+use crate::keys::{self, Given, KEYS};
 use crate::text_file::{text, Fault, Faults};
 use crate::values;
-use library::Request;
+use library::{Request, MOST_TERMS};
 
 /// What is expected of a file.
 const EXPECTED: &str = "a plant file";
@@ -11,25 +11,50 @@ const EXPECTED: &str = "a plant file";
 /// Words of a line that are looked at; no key takes so many.
 const MOST_WORDS: usize = 8;
 
+/// What a plant file holds.
+#[derive(Default)]
+pub struct PlantFile {
+    pub request: Request,
+    /// Where the terms stand: as many as may be there, and one more
+    pub term_lines: Vec<usize>,
+}
+
 /// Reads the text of a plant file. The faults come in the order of the
 /// lines, missing keys last.
-pub fn parse(bytes: &[u8]) -> Result<Request, Vec<Fault>> {
+pub fn parse(bytes: &[u8]) -> Result<PlantFile, Vec<Fault>> {
+    read(bytes, fill)
+}
+
+/// Reads a plant file of which the terms alone are wanted: any key may be
+/// left out.
+pub fn parse_terms(bytes: &[u8]) -> Result<PlantFile, Vec<Fault>> {
+    read(bytes, |_, _| Ok(()))
+}
+
+/// For each key the first line that has it.
+type FirstLines = [Option<usize>; KEYS.len()];
+
+/// Reads every line, and then fills in what no line has.
+fn read(
+    bytes: &[u8],
+    fill: fn(&mut Request, &FirstLines) -> Result<(), String>,
+) -> Result<PlantFile, Vec<Fault>> {
     let text = text(bytes, EXPECTED).map_err(|fault| vec![fault])?;
-    let mut request = Request::default();
+    let mut file = PlantFile::default();
     let mut first_lines = [None; KEYS.len()];
     let mut faults = Faults::default();
     let mut last = 1;
     for (place, line) in text.lines().enumerate() {
         last = place + 1;
-        if let Err(what) = read_line(line, last, &mut request, &mut first_lines) {
+        if let Err(what) = read_line(line, last, &mut file, &mut first_lines) {
             faults.add(last, what);
         }
     }
-    if let Err(what) = fill(&mut request, &first_lines) {
+    if let Err(what) = fill(&mut file.request, &first_lines) {
         faults.add(last, what);
     }
     faults.none_or(EXPECTED)?;
-    Ok(request)
+    Ok(file)
 }
 
 /// The words of a line or of a default.
@@ -37,12 +62,12 @@ fn words(content: &str) -> Vec<&str> {
     content.split_whitespace().take(MOST_WORDS).collect()
 }
 
-/// Reads one line. `first_lines` holds for each key the line that has it.
+/// Reads one line.
 fn read_line(
     line: &str,
     number: usize,
-    request: &mut Request,
-    first_lines: &mut [Option<usize>; KEYS.len()],
+    file: &mut PlantFile,
+    first_lines: &mut FirstLines,
 ) -> Result<(), String> {
     let content = line.split('#').next().unwrap_or_default();
     let words = words(content);
@@ -52,14 +77,18 @@ fn read_line(
     let Some(place) = KEYS.iter().position(|key| key.name == *name) else {
         return Err(unknown(name));
     };
-    if let Some(first) = first_lines[place] {
-        return Err(format!(
-            "key '{name}' was given in line {first} already; expected each key once"
-        ));
+    let key = &KEYS[place];
+    match (first_lines[place], key.given) {
+        (_, Given::Often) if file.term_lines.len() <= MOST_TERMS => file.term_lines.push(number),
+        (_, Given::Often) | (None, _) => {}
+        (Some(first), _) => {
+            return Err(format!(
+                "key '{name}' was given in line {first} already; expected each key once"
+            ))
+        }
     }
     first_lines[place] = Some(number);
-    let key = &KEYS[place];
-    key.put(request, value)
+    key.put(&mut file.request, value)
         .map_err(|wrong| format!("{wrong}; expected {}", key.expected()))
 }
 
@@ -74,13 +103,13 @@ fn unknown(name: &str) -> String {
 
 /// Puts in the defaults of the keys that no line has. The error names the
 /// keys without a default.
-fn fill(request: &mut Request, first_lines: &[Option<usize>; KEYS.len()]) -> Result<(), String> {
+fn fill(request: &mut Request, first_lines: &FirstLines) -> Result<(), String> {
     let mut missing = Vec::new();
     for (key, line) in KEYS.iter().zip(first_lines) {
-        match (line, key.default) {
-            (Some(_), _) => {}
-            (None, Some(value)) => key.put(request, &words(value))?,
-            (None, None) => missing.push(key),
+        match (line, key.given) {
+            (Some(_), _) | (None, Given::Often) => {}
+            (None, Given::OnceOr(value)) => key.put(request, &words(value))?,
+            (None, Given::Once) => missing.push(key),
         }
     }
     match missing.as_slice() {

@@ -4,12 +4,16 @@ use crate::census;
 use crate::culprit;
 use crate::explanation::{self, LEAST_SOLIDS, MOST_SLUDGE_VOLUME};
 use crate::keys::MOST_DOSE;
+use crate::plant_file::PlantFile;
+use crate::season;
+use crate::values::filled;
 use library::number::{self, *};
 use library::sheet::{candidates, GRID};
 use library::{Candidate, Figures, Request, TankFlow};
 
 /// The message of a refusal.
-pub fn words(number: u32, request: &Request, candidate: Option<Candidate>) -> String {
+pub fn words(number: u32, file: &PlantFile, candidate: Option<Candidate>) -> String {
+    let request = &file.request;
     let text = match number {
         PLANT_DATA => "a plant or site figure is outside its range".to_string(),
         NO_NUMBER => "the value of a reading is no number, or below zero".to_string(),
@@ -17,6 +21,7 @@ pub fn words(number: u32, request: &Request, candidate: Option<Candidate>) -> St
         COD_RATIO => "five times the COD is more than eleven times the BOD".to_string(),
         NO_DESIGN => no_design(request),
         OFF_GRID => off_grid(request.tank, candidate),
+        TERMS => "a term of the consent is not valid, or there are too many".to_string(),
         _ => candidate.map_or_else(String::new, |candidate| {
             explanation::figures(request, candidate).map_or_else(
                 |_| String::new(),
@@ -26,7 +31,7 @@ pub fn words(number: u32, request: &Request, candidate: Option<Candidate>) -> St
     };
     let word = number::word(number).unwrap_or("unknown");
     let mut message = format!("refused {number} ({word}): {text}");
-    for line in culprit::lines(number, request) {
+    for line in culprit::lines(number, file) {
         message += &format!("\n  {line}");
     }
     message
@@ -100,59 +105,93 @@ fn moves(way: Move, tank: TankFlow, candidate: Candidate) -> String {
     }
 }
 
-/// Refusals 7 to 10: the figure and its limit, keys to look at, and moves.
+/// Refusals 7, 15, 16 and 8 to 10: the figure and its limit, keys to look at,
+/// and moves.
 fn broken_limit(number: u32, request: &Request, candidate: Candidate, figures: &Figures) -> String {
     let both = &["R", "H"];
     let (text, keys, way) = match number {
         NITRATE => {
-            let dose = explanation::least_dose(request, candidate);
-            let keys = match dose {
-                Some(_) => "nitrate-target, dose, nitrogen and bod, design-temperature",
-                None => "nitrate-target, nitrogen and bod, design-temperature",
+            let (text, keys) = nitrate(request, candidate, figures);
+            (text, keys, Move::Larger(&["F"]))
+        }
+        NITRIFICATION => {
+            let (text, keys, helps) = season::nitrification(request, candidate, figures);
+            let way = match helps {
+                true => Move::Larger(&["F"]),
+                false => Move::None,
             };
-            (nitrate(figures, dose), keys, Move::Larger(&["F"]))
+            (text, keys, way)
+        }
+        TERM_NITRATE => {
+            let (text, keys) = season::nitrate(request, candidate, figures);
+            (text, keys, Move::Larger(&["F"]))
         }
         SOLIDS if figures.solids < LEAST_SOLIDS => (
             few_solids(figures),
-            "sludge-volume-index, removal",
+            "sludge-volume-index, removal".to_string(),
             Move::Larger(both),
         ),
-        SOLIDS => (much_volume(figures), "removal", Move::Smaller(both)),
+        SOLIDS => (
+            much_volume(figures),
+            "removal".to_string(),
+            Move::Smaller(both),
+        ),
         SURFACE => (
             surface(request, figures),
-            "site-surface, wet-weather-flow, tank, removal",
+            "site-surface, wet-weather-flow, tank, removal".to_string(),
             Move::Smaller(both),
         ),
         DEPTH => (
             depth(request, figures),
-            "site-depth, R and H, tank, removal",
+            "site-depth, R and H, tank, removal".to_string(),
             Move::None,
         ),
         _ => return String::new(),
     };
     let moves = moves(way, request.tank, candidate);
-    format!("{text}\n  Look at {keys}{moves}")
+    text + &filled(&format!("Look at {keys}{moves}"))
 }
 
-/// The two nitrate columns, the parts of the right one, and the least dose
-/// that covers the left one.
-fn nitrate(figures: &Figures, least_dose: Option<u32>) -> String {
-    let dose = match least_dose {
-        Some(dose) => format!("The least dose that covers it: {dose} mg/m3 as COD."),
-        None => format!("No dose up to {MOST_DOSE} mg/m3 as COD covers it."),
-    };
+/// The two nitrate columns, with the parts of the right one.
+pub fn columns(to_remove: u64, by_bod: u64, by_dose: u64, removable: u64) -> String {
     format!(
-        "the tank cannot remove enough nitrate.\n  \
-         to be removed             {:>8} mg/m3\n  \
-         removed by the tank's BOD {:>8} mg/m3\n  \
-         removed by the dose       {:>8} mg/m3\n  \
-         the tank can remove       {:>8} mg/m3\n  \
-         {dose}",
+        "\n  \
+         to be removed             {to_remove:>8} mg/m3\n  \
+         removed by the tank's BOD {by_bod:>8} mg/m3\n  \
+         removed by the dose       {by_dose:>8} mg/m3\n  \
+         the tank can remove       {removable:>8} mg/m3"
+    )
+}
+
+/// The least dose that covers something, or that none does.
+pub fn least_dose(dose: Option<u32>, what: &str) -> String {
+    match dose {
+        Some(dose) => format!("\n  The least dose that covers {what}: {dose} mg/m3 as COD."),
+        None => format!("\n  No dose up to {MOST_DOSE} mg/m3 as COD covers {what}."),
+    }
+}
+
+/// Refusal 7: the columns, the least dose that covers the left one, and what
+/// to look at.
+fn nitrate(request: &Request, candidate: Candidate, figures: &Figures) -> (String, String) {
+    let dose = explanation::least_dose(request, candidate);
+    let columns = columns(
         figures.nitrate_to_remove,
         figures.removed_by_bod,
         figures.removed_by_dose,
-        figures.nitrate_removable
-    )
+        figures.nitrate_removable,
+    );
+    let mut text = format!("the tank cannot remove enough nitrate.{columns}");
+    text += &least_dose(dose, "it");
+    let of_terms = explanation::least_dose_of_terms(request, candidate);
+    if of_terms.is_some() && of_terms != dose {
+        text += &least_dose(of_terms, "the terms too");
+    }
+    let keys = match dose {
+        Some(_) => "nitrate-target, dose, nitrogen and bod, design-temperature",
+        None => "nitrate-target, nitrogen and bod, design-temperature",
+    };
+    (text, keys.to_string())
 }
 
 fn few_solids(figures: &Figures) -> String {

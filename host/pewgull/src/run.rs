@@ -1,16 +1,16 @@
 //! One command on one file.
 
 use crate::answer::Answer;
-use crate::arguments::{Action, Command};
+use crate::arguments::{Command, Task};
+use crate::consent;
 use crate::day_file::{self, Log};
 use crate::json::{self, Member, Value};
 use crate::load;
-use crate::plant_file;
+use crate::plant_file::{self, PlantFile};
 use crate::refusal;
 use crate::text_file::Fault;
 use crate::values::escaped;
 use library::number::{self, is_refusal, SHEET};
-use library::Request;
 use std::ffi::OsStr;
 use std::fs::File;
 use std::io::{self, ErrorKind, Read};
@@ -77,30 +77,33 @@ fn error(messages: Vec<String>) -> Found {
 
 /// What comes of a file, or why it cannot be answered for.
 fn found(command: &Command, file: &OsStr, name: &str) -> Result<Found, Vec<String>> {
-    if let Action::Logs(call) = command.action {
-        let log = read_log(file, name, command.csv)?;
-        let answer = call(&log.bytes);
-        return settled(answer, name, |number| load::words(number, &log));
-    }
-    let request = read(file, name)?;
-    let answer = answered(command, &request)?;
-    settled(answer, name, |number| {
-        refusal::words(number, &request, command.candidate)
-    })
-}
-
-/// The library's answer to a request.
-fn answered(command: &Command, request: &Request) -> Result<Answer, Vec<String>> {
-    match (command.action, command.candidate) {
-        (Action::Plants(call), _) => Ok(call(request)),
-        (Action::Candidate(call), Some(candidate)) => Ok(call(request, candidate)),
-        (Action::Candidate(_) | Action::Logs(_), _) => {
-            Err(vec!["the candidate is missing".to_string()])
+    match command.task {
+        Task::Plants(call) => {
+            let plant = read(file, name, plant_file::parse)?;
+            settled(call(&plant.request), name, |number| {
+                refusal::words(number, &plant, None)
+            })
+        }
+        Task::Candidate(call, candidate) => {
+            let plant = read(file, name, plant_file::parse)?;
+            settled(call(&plant.request, candidate), name, |number| {
+                refusal::words(number, &plant, Some(candidate))
+            })
+        }
+        Task::Logs { call, csv } => {
+            let log = read_log(file, name, csv)?;
+            settled(call(&log.bytes), name, |number| load::words(number, &log))
+        }
+        Task::Date(call, date) => {
+            let plant = read(file, name, plant_file::parse_terms)?;
+            settled(call(&plant.request.terms, date), name, |number| {
+                consent::words(number, &plant, date)
+            })
         }
     }
 }
 
-/// An answer with the words of its refusal.
+/// An answer with its remark, or with the words of its refusal.
 fn settled(
     answer: Answer,
     name: &str,
@@ -108,13 +111,15 @@ fn settled(
 ) -> Result<Found, Vec<String>> {
     match answer.number {
         SHEET => {
+            let remark = answer.remark.map(|remark| format!("{name}: {remark}"));
             let mut members = vec![json::text("status", answer.kind)];
             members.extend(answer.members);
+            members.extend(remark.iter().map(|remark| json::text("message", remark)));
             Ok(Found {
                 status: 0,
                 text: answer.text,
                 members,
-                messages: Vec::new(),
+                messages: remark.into_iter().collect(),
             })
         }
         number if is_refusal(number) => Ok(refused(answer, format!("{name}: {}", words(number)))),
@@ -141,9 +146,13 @@ fn refused(answer: Answer, message: String) -> Found {
 }
 
 /// Reads and parses a plant file.
-fn read(file: &OsStr, name: &str) -> Result<Request, Vec<String>> {
+fn read(
+    file: &OsStr,
+    name: &str,
+    parse: fn(&[u8]) -> Result<PlantFile, Vec<Fault>>,
+) -> Result<PlantFile, Vec<String>> {
     let bytes = expected(file, name, "a plant file")?;
-    plant_file::parse(&bytes).map_err(|faults| told(&faults, name))
+    parse(&bytes).map_err(|faults| told(&faults, name))
 }
 
 /// Reads a day log, or makes it from a text file.

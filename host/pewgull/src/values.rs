@@ -1,6 +1,6 @@
 //! The values of a plant file and of the command line.
 
-use library::Reading;
+use library::{Date, Reading, Term};
 
 /// A whole number of 32 bits, in digits alone. The error says what is wrong.
 pub fn whole(word: &str) -> Result<u32, String> {
@@ -44,6 +44,32 @@ pub fn reading(words: &[&str]) -> Result<Reading, String> {
     }
 }
 
+/// `MM-DD`. Whether there is such a day is the library's answer.
+pub fn date(word: &str) -> Result<Date, String> {
+    let (month, day) = word.split_once('-').unwrap_or_default();
+    match (whole(month), whole(day)) {
+        (Ok(month), Ok(day)) => Ok(Date { month, day }),
+        _ => Err(format!("'{}' is not a date MM-DD", shown(word))),
+    }
+}
+
+/// What the words of a term are, in their order.
+const TERM_PARTS: [&str; 4] = ["first day", "last day", "temperature", "target"];
+
+/// `MM-DD MM-DD TEMPERATURE TARGET`.
+pub fn term(words: &[&str]) -> Result<Term, String> {
+    match words {
+        [first, last, temperature, target] => Ok(Term {
+            first: date(first)?,
+            last: date(last)?,
+            temperature: whole(temperature)?,
+            target: whole(target)?,
+        }),
+        [_, _, _, _, rest, ..] => Err(format!("'{}' is one word too many", shown(rest))),
+        few => Err(format!("the {} is missing", TERM_PARTS[few.len()])),
+    }
+}
+
 /// A word of the file as it can stand in a message: short, and without
 /// control characters.
 pub fn shown(word: &str) -> String {
@@ -55,6 +81,33 @@ pub fn shown(word: &str) -> String {
         .collect();
     if word.chars().count() > LONGEST {
         text.push_str("...");
+    }
+    text
+}
+
+/// Words as a sentence lists them: `a, b and c`.
+pub fn listed(words: &[String]) -> String {
+    match words {
+        [first @ .., last] if !first.is_empty() => format!("{} and {last}", first.join(", ")),
+        _ => words.concat(),
+    }
+}
+
+/// A sentence of a message in lines of 80 columns, each on a new line and
+/// indented by two.
+pub fn filled(sentence: &str) -> String {
+    const COLUMNS: usize = 80;
+    let mut text = String::new();
+    let mut column = COLUMNS;
+    for word in sentence.split(' ') {
+        let length = word.chars().count();
+        if column + 1 + length > COLUMNS {
+            text += "\n ";
+            column = 1;
+        }
+        text += " ";
+        text += word;
+        column += 1 + length;
     }
     text
 }
@@ -159,6 +212,75 @@ mod tests {
         for (words, expected) in wrong {
             assert!(reading(words).unwrap_err().contains(expected), "{words:?}");
         }
+    }
+
+    #[test]
+    fn dates_and_terms() {
+        let (month, day) = (2, 30);
+        for word in ["02-30", "2-30", "0002-030"] {
+            assert_eq!(date(word), Ok(Date { month, day }), "{word}");
+        }
+        for word in [
+            "",
+            "-",
+            "0230",
+            "02-",
+            "-30",
+            "02/30",
+            "2026-02-30",
+            "+2-30",
+            "02- 30",
+            "2-4294967296",
+        ] {
+            let wrong = date(word).unwrap_err();
+            assert!(wrong.contains("not a date MM-DD"), "{word}");
+        }
+        let first = Date { month, day };
+        let last = Date { month: 13, day: 0 };
+        let (temperature, target) = (21, 999);
+        assert_eq!(
+            term(&["02-30", "13-00", "21", "999"]),
+            Ok(Term {
+                first,
+                last,
+                temperature,
+                target
+            })
+        );
+        let wrong: [(&[&str], &str); 7] = [
+            (&[], "the first day is missing"),
+            (&["11-01"], "the last day is missing"),
+            (&["11-01", "03-31"], "the temperature is missing"),
+            (&["11-01", "03-31", "8"], "the target is missing"),
+            (&["11-01", "03-31", "8.5", "1"], "'8.5' is not a whole"),
+            (&["11-01", "8", "1", "1"], "'8' is not a date MM-DD"),
+            (
+                &["11-01", "03-31", "8", "1", "mg/m3"],
+                "'mg/m3' is one word too many",
+            ),
+        ];
+        for (words, expected) in wrong {
+            assert!(term(words).unwrap_err().contains(expected), "{words:?}");
+        }
+    }
+
+    #[test]
+    fn words_are_listed() {
+        let words = ["a", "b", "c"].map(String::from);
+        assert_eq!(listed(&words), "a, b and c");
+        assert_eq!(listed(&words[1..]), "b and c");
+        assert_eq!(listed(&words[2..]), "c");
+        assert_eq!(listed(&[]), "");
+    }
+
+    #[test]
+    fn sentences_are_filled() {
+        assert_eq!(filled("a b"), "\n  a b");
+        let long = "x".repeat(77);
+        assert_eq!(filled(&format!("{long} y")), format!("\n  {long}\n  y"));
+        assert_eq!(filled(&format!("{long}x y")), format!("\n  {long}x\n  y"));
+        let two = format!("{} y", "x".repeat(76));
+        assert_eq!(filled(&two), format!("\n  {two}"));
     }
 
     #[test]

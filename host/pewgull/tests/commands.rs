@@ -6,7 +6,8 @@ use common::{example, file, pewgull, replaced, with, CASE_A, CASE_A_LISTING};
 use std::fs::{self, File};
 use std::process::{Command, Stdio};
 
-const NONE_PERMITTED: &str = "permitted 0\nnitrate 83076\nsolids 0\nsurface 0\ndepth 0\n";
+const NONE_PERMITTED: &str = "permitted 0\nnitrate 83076\nnitrification 0\nterm-nitrate 0\n\
+    solids 0\nsurface 0\ndepth 0\n";
 const CHOSEN: &str = "fraction 300\nreturn 73\nthickening 21\n";
 
 #[test]
@@ -254,7 +255,8 @@ fn no_design_counts_the_grid() {
 #[test]
 fn census_counts_by_rule() {
     let ran = pewgull(&["census", &example("case-a.plant")]);
-    let expected = "permitted 55476\nnitrate 27600\nsolids 0\nsurface 0\ndepth 0\n";
+    let expected = "permitted 55476\nnitrate 27600\nnitrification 0\nterm-nitrate 0\n\
+        solids 0\nsurface 0\ndepth 0\n";
     assert_eq!((ran.status, ran.out.as_str()), (0, expected));
     assert_eq!(ran.err, "");
     let none = example("weak-sewage-no-design.plant");
@@ -272,19 +274,19 @@ fn a_refused_census() {
     assert!(ran.err.contains("(COD ratio)"), "{}", ran.err);
 }
 
-/// Lines that replace those of Case A, the counts of the census, and words of
-/// the advice.
+/// Lines that replace those of Case A, the counts of the census, nitrate,
+/// solids, surface and depth, and words of the advice.
 type NoDesign = (&'static str, [u32; 4], &'static [&'static str]);
 
 #[rustfmt::skip]
 const NO_DESIGNS: [NoDesign; 7] = [
-    ("nitrogen measured 100", [83_076, 0, 0, 0], &["first at nitrate, which stops the most:", "a looser nitrate-target, a dose of at least 250000 mg/m3 as COD,\n  another process"]),
+    ("nitrogen measured 100", [83_076, 0, 0, 0], &["first at nitrate, which stops the most:", "a looser nitrate-target, a dose of at least 250000 mg/m3 as COD, another\n  process"]),
     ("nitrogen measured 150", [83_076, 0, 0, 0], &["a dose of at least 500000 mg/m3 as COD,"]),
     ("nitrogen measured 150.001", [83_076, 0, 0, 0], &["a looser nitrate-target, another process, the readings"]),
     ("site-surface 1", [27_600, 0, 55_476, 0], &["first at surface, which stops the most:", "a larger site-surface"]),
     ("removal hopper\nsite-depth 3000", [27_600, 0, 0, 55_476], &["first at depth, which stops the most:", "a larger site-depth"]),
     // nitrate stops more, and still it is the tank that nothing gets past
-    ("nitrogen measured 50\nsite-surface 1", [82_800, 0, 276, 0], &["first at surface, which stops the most of those that keep", "or a dose alone cannot help: every tank is stopped"]),
+    ("nitrogen measured 50\nsite-surface 1", [82_800, 0, 276, 0], &["first at surface, which stops the most of those that keep", "nitrate (a\n  looser target or a dose alone cannot help: every tank is stopped):\n"]),
     ("nitrogen measured 100\nsite-surface 1", [83_076, 0, 0, 0], &["first at nitrate, which stops the most:"]),
 ];
 
@@ -301,7 +303,8 @@ fn no_design_tells_the_census_and_where_to_look() {
         let census = pewgull(&["census", &path]).out;
         let [nitrate, solids, surface, depth] = counts;
         let expected = format!(
-            "permitted 0\nnitrate {nitrate}\nsolids {solids}\nsurface {surface}\ndepth {depth}\n"
+            "permitted 0\nnitrate {nitrate}\nnitrification 0\nterm-nitrate 0\n\
+             solids {solids}\nsurface {surface}\ndepth {depth}\n"
         );
         assert_eq!(census, expected);
         let told = census.replace('\n', "\n  ");
@@ -368,11 +371,16 @@ fn several_files_have_headings_and_the_largest_status() {
 }
 
 #[rustfmt::skip]
-const USAGE_ERRORS: [(&str, &str); 13] = [
-    ("", "no command; expected choose, examine, explain, census, load or help"),
-    ("chose", "'chose' is no command; expected choose, examine, explain, census, load or help"),
+const USAGE_ERRORS: [(&str, &str); 18] = [
+    ("", "no command; expected choose, examine, explain, census, load, target or help"),
+    ("chose", "'chose' is no command; expected choose, examine, explain, census, load, target or help"),
     ("load --csv", "expected load [--csv] LOG..."),
     ("choose --csv F", "--csv is for the command load alone"),
+    ("target --csv F 01-01", "--csv is for the command load alone"),
+    ("target F", "expected target FILE MM-DD, one file and one date (words given: 1)"),
+    ("target F 01-01 02-01", "expected target FILE MM-DD, one file and one date (words given: 3)"),
+    ("target F 0101", "'0101' is not a date MM-DD; expected month and day, such as 02-29"),
+    ("target F 2026-01-01", "'2026-01-01' is not a date MM-DD; expected month and day"),
     ("choose", "expected choose FILE..."),
     ("census --json", "expected census FILE..."),
     ("choose --jsno F", "'--jsno' is no option; expected --json, --csv, --help or --version"),

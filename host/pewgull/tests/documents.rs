@@ -5,10 +5,10 @@ mod common;
 use common::{pewgull, repository};
 use library::number;
 use library::sheet::{candidates, GRID, LINES};
-use library::{TankFlow, COUNTED, LEAST_DAYS, MOST_BOD, MOST_DAYS, MOST_FLOW};
+use library::{TankFlow, COUNTED, LEAST_DAYS, MOST_BOD, MOST_DAYS, MOST_FLOW, MOST_TERMS};
 use pewgull::arguments::COMMANDS;
 use pewgull::census::label;
-use pewgull::keys::{Field, HEADS, KEYS};
+use pewgull::keys::{Field, HEADS, KEYS, TERM_TARGET, TERM_TEMPERATURE, TERM_WORDS};
 use std::fs;
 
 fn document(name: &str) -> String {
@@ -26,12 +26,15 @@ fn has(document: &str, name: &str, part: &str) {
 }
 
 /// README.md shows the command on an example, with what it prints.
-fn shows(command: &str, example: &str) {
-    let path = repository().join(example);
-    let mut words: Vec<&str> = command.split(' ').collect();
-    words.push(path.to_str().unwrap());
+fn shows(command: &str) {
+    let path = |word: &str| match word.starts_with("examples/") {
+        true => repository().join(word).to_str().unwrap().to_string(),
+        false => word.to_string(),
+    };
+    let words: Vec<String> = command.split(' ').map(path).collect();
+    let words: Vec<&str> = words.iter().map(String::as_str).collect();
     let ran = pewgull(&words);
-    let shown = format!("    $ pewgull {command} {example}\n{}", ran.out);
+    let shown = format!("    $ pewgull {command}\n{}", ran.out);
     let shown = shown.trim_end().replace('\n', "\n    ");
     has(&document("README.md"), "README.md", &shown);
 }
@@ -78,8 +81,12 @@ fn keys() {
                 has(&help, "help", &format!(" {name} {} ", words.join(", ")));
                 words.join(", ")
             }
+            Field::Term => {
+                has(&help, "help", &format!(" {name} {meaning} {TERM_WORDS} "));
+                TERM_WORDS.to_string()
+            }
         };
-        let default = match key.default {
+        let default = match key.left_out() {
             Some(value) => {
                 has(&help, "help", &format!(" {name} {value}"));
                 format!("; left out: {value}")
@@ -95,6 +102,33 @@ fn keys() {
     for document in [&plain(&readme), &header, &help] {
         has(document, "a document", &HEADS.digits());
     }
+}
+
+/// The ranges of a term, and how many there may be.
+#[test]
+fn terms() {
+    let readme = plain(&document("README.md"));
+    let header = plain(&document("include/pewgull.h"));
+    let help = plain(&pewgull(&["help"]).out);
+    let [temperature, target] =
+        [TERM_TEMPERATURE, TERM_TARGET].map(|range| (range.digits(), range.unit));
+    let with_unit = |(digits, unit): &(String, &str)| format!("{digits} {unit}");
+    for document in [&readme, &header, &help] {
+        has(document, "a document", &with_unit(&temperature));
+        has(document, "a document", &with_unit(&target));
+    }
+    assert_eq!(MOST_TERMS, 4);
+    has(&readme, "README.md", "up to four terms");
+    has(&readme, "README.md", "at most four terms");
+    has(
+        &header,
+        "the header",
+        "number of terms of the consent, 0..4 ",
+    );
+    has(&header, "the header", "more than four terms");
+    has(&help, "help", "at most 4 of them");
+    shows("choose examples/colder-winter-term.plant");
+    shows("target examples/winter-term.plant 02-29");
 }
 
 #[test]
@@ -166,9 +200,9 @@ fn commands() {
 fn census() {
     let header = plain(&document("include/pewgull.h"));
     for number in COUNTED {
-        let (from, word) = (8 * number, label(number));
+        let (from, word) = (8 * number, number::word(number).unwrap());
         let row = match number {
-            number::SHEET => format!(" 0..7 {word} (0) "),
+            number::SHEET => format!(" 0..7 {} (0) ", label(number)),
             _ => format!(" {from}..{} refused for {word} ({number}) ", from + 7),
         };
         has(&header, "the header", &row);
@@ -180,14 +214,14 @@ fn census() {
         let count = format!("{},{:03}", count / 1000, count % 1000);
         has(&header, "the header", &count);
     }
-    shows("census", "examples/weak-sewage-no-design.plant");
+    shows("census examples/weak-sewage-no-design.plant");
 }
 
 /// The works short of BOD, without a dose and with one.
 #[test]
 fn dose() {
-    shows("choose", "examples/short-of-bod.plant");
-    shows("choose", "examples/short-of-bod-with-methanol.plant");
+    shows("choose examples/short-of-bod.plant");
+    shows("choose examples/short-of-bod-with-methanol.plant");
 }
 
 /// The ranges of a day log, how its load serves for a plant, and the example.
@@ -217,7 +251,7 @@ fn load() {
         let use_of_it = "the sum divided by 14 and by 1,000,000,000, rounded up to a whole kg/d";
         has(document, "a document", use_of_it);
     }
-    shows("load --csv", "examples/two-years.csv");
+    shows("load --csv examples/two-years.csv");
 }
 
 #[test]
@@ -232,6 +266,8 @@ fn lengths() {
         ("FIGURES_LENGTH", library::FIGURES_LENGTH),
         ("CENSUS_LENGTH", library::CENSUS_LENGTH),
         ("LOAD_PAGE", library::LOAD_PAGE),
+        ("TARGET_LENGTH", library::TARGET_LENGTH),
+        ("TARGET_PAGE", library::TARGET_PAGE),
     ] {
         has(
             &header,
@@ -240,11 +276,14 @@ fn lengths() {
         );
     }
     let (version, figures) = (library::VERSION, library::FIGURES_LENGTH);
+    let target = library::TARGET_PAGE;
     for part in [
         format!("The request, version {version}: "),
         format!(" 0..3 version: {version} "),
         format!("writes {figures} bytes of zeros"),
         format!("fewer than {figures} bytes"),
+        format!("writes {target} bytes of zeros"),
+        format!("fewer than {target} bytes"),
     ] {
         has(&header, "the header", &part);
     }

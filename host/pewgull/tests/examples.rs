@@ -9,7 +9,7 @@ use std::path::Path;
 use std::process::Command;
 
 /// Each file, its answer's first lines, and its exit status.
-const ANSWERS: [(&str, &str, i32); 9] = [
+const ANSWERS: [(&str, &str, i32); 11] = [
     (
         "case-a.plant",
         "fraction 300\nreturn 73\nthickening 21\n",
@@ -18,6 +18,11 @@ const ANSWERS: [(&str, &str, i32); 9] = [
     (
         "city-step-feed-three.plant",
         "fraction 340\nreturn 75\nthickening 25\n",
+        0,
+    ),
+    (
+        "colder-winter-term.plant",
+        "fraction 404\nreturn 75\nthickening 25\n",
         0,
     ),
     (
@@ -47,6 +52,11 @@ const ANSWERS: [(&str, &str, i32); 9] = [
         0,
     ),
     ("weak-sewage-no-design.plant", "refused 5\n", 1),
+    (
+        "winter-term.plant",
+        "fraction 320\nreturn 75\nthickening 25\n",
+        0,
+    ),
 ];
 
 #[test]
@@ -75,6 +85,39 @@ fn every_plant_is_in_the_table_and_says_what_it_shows() {
     assert_eq!(names, ANSWERS.map(|(name, _, _)| name));
 }
 
+/// A plant file after its first line.
+fn data(path: &str) -> String {
+    let text = fs::read_to_string(path).unwrap();
+    text.split_once('\n').unwrap().1.to_string()
+}
+
+/// The town with two terms has the design that it has without them; two
+/// degrees less in winter take a larger fraction and 899 m3 more.
+#[test]
+fn winter_terms() {
+    let [town, winter, colder] = [
+        "town-pre-anoxic.plant",
+        "winter-term.plant",
+        "colder-winter-term.plant",
+    ]
+    .map(example);
+    let summer = "term 05-01 09-30 16 9000\n";
+    let terms = |winter: &str| format!("{}{winter}\n{summer}", data(&town));
+    assert_eq!(data(&winter), terms("term 11-01 03-31 11 15000"));
+    assert_eq!(data(&colder), terms("term 11-01 03-31 9 15000"));
+    let chosen = |path: &str| pewgull(&["choose", path]).out;
+    assert_eq!(chosen(&winter), chosen(&town));
+    let total = |path: &str| -> u32 {
+        let listing = chosen(path);
+        let mut lines = listing.lines();
+        let total = lines.find_map(|line| line.strip_prefix("total "));
+        total.unwrap().parse().unwrap()
+    };
+    assert_eq!(total(&colder), total(&winter) + 899);
+    let ran = pewgull(&["examine", &colder, "320", "75", "25"]);
+    assert_eq!(ran.out, "refused 16\n");
+}
+
 /// The two works short of BOD differ in the dose alone; without it the
 /// nitrate stops every candidate.
 #[test]
@@ -83,10 +126,6 @@ fn short_of_bod() {
         example("short-of-bod.plant"),
         example("short-of-bod-with-methanol.plant"),
     );
-    let data = |path: &str| {
-        let text = fs::read_to_string(path).unwrap();
-        text.split_once('\n').unwrap().1.to_string()
-    };
     assert_eq!(data(&with), data(&without) + "dose 80000\n");
     let census = pewgull(&["census", &without]).out;
     assert!(

@@ -106,6 +106,51 @@ fn a_key_with_a_default() {
     }
 }
 
+/// Left out, there is no term; otherwise the lines count in their order. A
+/// term at the design's temperature and target leaves Case A's sheet.
+#[test]
+fn lines_of_terms() {
+    let same = "term 11-01 03-31 12 10000\n";
+    accepted("term.plant", format!("{same}{CASE_A}"));
+    accepted("terms.plant", format!("{CASE_A}{}", same.repeat(4)));
+    let commented = "term\t1-1  12-31 0012 10000# all year\n";
+    accepted("term-comment.plant", format!("{CASE_A}{commented}"));
+    let ran = examine(&file("no-term.plant", ""));
+    assert!(!ran.err.contains("term "), "{}", ran.err);
+    let expected = "expected 'term MM-DD MM-DD TEMPERATURE TARGET': first and last day, \
+                    lowest temperature of 4..20 degrees Celsius, \
+                    nitrate target of 1000..50000 mg/m3";
+    for (place, (line, wrong)) in [
+        ("term", "the first day is missing"),
+        ("term 11-01", "the last day is missing"),
+        ("term 11-01 03-31", "the temperature is missing"),
+        ("term 11-01 03-31 8", "the target is missing"),
+        ("term 11.01 03-31 8 1", "'11.01' is not a date MM-DD"),
+        (
+            "term 11-01 2026-03-31 8 1",
+            "'2026-03-31' is not a date MM-DD",
+        ),
+        ("term 11-01 03-31 -8 1", "'-8' is not a whole number"),
+        ("term 11-01 03-31 8 1e4", "'1e4' is not a whole number"),
+        ("term 11-01 03-31 8 1 mg/m3", "'mg/m3' is one word too many"),
+    ]
+    .iter()
+    .enumerate()
+    {
+        let text = format!("{CASE_A}{same}{line}\n");
+        refused(
+            &format!("bad-term-{place}.plant"),
+            text,
+            25,
+            wrong,
+            expected,
+        );
+    }
+    let wrong = "'Terms' is no key";
+    let text = format!("{CASE_A}Terms 11-01 03-31 8 10000\n");
+    refused("terms-key.plant", text, 24, wrong, "expected 'term', or");
+}
+
 #[test]
 fn double_key() {
     let twice = format!("{CASE_A}flow 5000\n");
@@ -273,10 +318,11 @@ fn line_ends_of_cr_alone() {
 /// Many faults, and many words, of a file of a megabyte take some megabytes.
 #[test]
 fn memory_for_a_long_file() {
-    for (name, part) in [
-        ("faults.plant", "x\n"),
-        ("words.plant", "x "),
-        ("keys.plant", "load\n"),
+    for (name, part, line) in [
+        ("faults.plant", "x\n", 1),
+        ("words.plant", "x ", 1),
+        ("keys.plant", "load\n", 1),
+        ("many-terms.plant", "term 1-1 1-1 4 1000\n", 52_428),
     ] {
         let path = file(name, part.repeat((1 << 20) / part.len()));
         let ran = common::ran(
@@ -292,7 +338,8 @@ fn memory_for_a_long_file() {
             "{name}: {}",
             ran.err
         );
-        assert!(ran.err.contains(".plant:1: "), "{name}: {}", ran.err);
+        let start = format!(".plant:{line}: ");
+        assert!(ran.err.contains(&start), "{name}: {}", ran.err);
     }
 }
 

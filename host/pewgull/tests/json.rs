@@ -104,7 +104,7 @@ fn a_census() {
     let ran = pewgull(&["census", "--json", &path]);
     let expected = format!(
         "file {path}\nstatus census\npermitted 55476\nnitrate 27600\n\
-        solids 0\nsurface 0\ndepth 0\ncandidates 83076\n"
+        nitrification 0\nterm-nitrate 0\nsolids 0\nsurface 0\ndepth 0\ncandidates 83076\n"
     );
     assert_eq!((ran.status, listing(ran.out.trim_end())), (0, expected));
     let refused = file("json-census.plant", "load 0\n".to_string() + &CASE_A[10..]);
@@ -116,6 +116,47 @@ fn a_census() {
         "{}",
         ran.out
     );
+}
+
+/// The lines of each term come after the design's, and the verdict last.
+#[test]
+fn figures_of_terms() {
+    let path = file(
+        "json-terms.plant",
+        format!("{CASE_A}term 11-01 03-31 8 30000\nterm 04-01 10-31 11 12999\n"),
+    );
+    let ran = pewgull(&["explain", "--json", &path, "300", "75", "20"]);
+    let expected = "depth 4537\ndepth-at-most 5000\n\
+        term-1-aerobic-share 1037\nterm-1-aerobic-share-at-most 1000\n\
+        term-1-fraction 0\nterm-1-fraction-at-most 300\n\
+        term-1-to-remove 6000\nterm-1-to-remove-at-most 0\nterm-1-removed-by-bod 0\n\
+        term-1-removable 0\nterm-1-removable-at-least 6000\n\
+        term-2-aerobic-share 773\nterm-2-aerobic-share-at-most 1000\n\
+        term-2-fraction 227\nterm-2-fraction-at-most 300\n\
+        term-2-to-remove 23001\nterm-2-to-remove-at-most 23000\nterm-2-removed-by-bod 23000\n\
+        term-2-removable 23000\nterm-2-removable-at-least 23001\n\
+        verdict 15\nword nitrification\n";
+    let members = listing(ran.out.trim_end());
+    assert_eq!(ran.status, 0);
+    assert!(members.ends_with(expected), "{members}");
+}
+
+#[test]
+fn a_target() {
+    let path = file("json-target.plant", "term 11-01 03-31 8 20000\n");
+    let ran = pewgull(&["target", "--json", &path, "02-29"]);
+    let expected = format!("file {path}\nstatus target\ntarget 20000\n");
+    assert_eq!((ran.status, listing(ran.out.trim_end())), (0, expected));
+    let ran = pewgull(&["target", "--json", &path, "04-01"]);
+    let message = format!("{path}: no term runs on 04-01\n");
+    let expected = format!("file {path}\nstatus target\ntarget 0\nmessage {message}");
+    assert_eq!((ran.status, listing(ran.out.trim_end())), (0, expected));
+    assert_eq!(ran.err, format!("pewgull: {message}"));
+    let ran = pewgull(&["target", "--json", &path, "02-30"]);
+    assert_eq!(ran.status, 1);
+    let start = format!("file {path}\nstatus refused\nnumber 14\nword terms\nmessage ");
+    let members = listing(ran.out.trim_end());
+    assert!(members.starts_with(&start), "{members}");
 }
 
 /// One object for each file, whatever comes of it.

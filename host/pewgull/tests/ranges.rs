@@ -4,13 +4,15 @@
 mod common;
 
 use common::CASE_A;
-use library::number::{COD_RATIO, NO_NUMBER, PLANT_DATA, READING_RANGE};
-use library::{explain, Candidate, Reading, Request, FIGURES_LENGTH};
-use pewgull::keys::{Field, Range, HEADS, KEYS};
-use pewgull::{culprit, plant_file};
+use library::number::{COD_RATIO, NO_NUMBER, PLANT_DATA, READING_RANGE, SHEET, TERMS};
+use library::{explain, target, Candidate, Date, Reading, Request, Term, Terms};
+use library::{FIGURES_LENGTH, MOST_TERMS, TARGET_PAGE};
+use pewgull::keys::{Field, Range, HEADS, KEYS, TERM_TARGET, TERM_TEMPERATURE};
+use pewgull::plant_file::{self, PlantFile};
+use pewgull::{consent, culprit};
 
 fn case_a() -> Request {
-    plant_file::parse(CASE_A.as_bytes()).unwrap()
+    plant_file::parse(CASE_A.as_bytes()).unwrap().request
 }
 
 /// The number that the data get, whatever the candidate's rules say.
@@ -88,6 +90,47 @@ fn reading_ranges() {
     }
 }
 
+/// A term that Case A accepts.
+const YEAR: Term = Term {
+    first: Date { month: 1, day: 1 },
+    last: Date { month: 12, day: 31 },
+    temperature: 12,
+    target: 10_000,
+};
+
+fn with_term(change: impl Fn(&mut Term)) -> Request {
+    let mut request = case_a();
+    let mut term = YEAR;
+    change(&mut term);
+    request.terms.push(term);
+    request
+}
+
+type TermField = fn(&mut Term) -> &mut u32;
+
+#[test]
+fn term_ranges() {
+    let fields: [(Range, TermField); 2] = [
+        (TERM_TEMPERATURE, |term| &mut term.temperature),
+        (TERM_TARGET, |term| &mut term.target),
+    ];
+    for (Range { least, most, .. }, at) in fields {
+        for (value, due) in [
+            (least - 1, TERMS),
+            (least, SHEET),
+            (most, SHEET),
+            (most + 1, TERMS),
+        ] {
+            assert_eq!(number(&with_term(|term| *at(term) = value)), due, "{value}");
+        }
+    }
+    for (count, due) in [(MOST_TERMS, SHEET), (MOST_TERMS + 1, TERMS)] {
+        let mut request = case_a();
+        (0..count).for_each(|_| request.terms.push(YEAR));
+        assert_eq!(number(&request), due);
+    }
+}
+
 /// Numbers from a fixed seed.
 struct Random(u64);
 
@@ -157,26 +200,91 @@ fn odd_request(random: &mut Random) -> Request {
         let at = random.pick(&readings());
         *at(&mut request) = odd_reading(random);
     }
+    request.terms = odd_terms(random);
     request
 }
 
-/// A refusal of 1 to 4 has a culprit, and nothing else has.
+/// A date, now and then a day past its month's last or no month's.
+fn odd_date(random: &mut Random) -> Date {
+    match random.next() % 8 {
+        0 => Date {
+            month: random.pick(&[0, 1, 12, 13, u32::MAX]),
+            day: random.pick(&[0, 1, 31, 32, u32::MAX]),
+        },
+        1 => Date {
+            month: 1 + random.next() % 12,
+            day: 28 + random.next() % 5,
+        },
+        _ => Date {
+            month: 1 + random.next() % 12,
+            day: 1 + random.next() % 28,
+        },
+    }
+}
+
+/// No terms in half of the plants; entries past the count are as odd.
+fn odd_terms(random: &mut Random) -> Terms {
+    let mut terms = Terms::default();
+    for entry in &mut terms.entries {
+        *entry = Term {
+            first: odd_date(random),
+            last: odd_date(random),
+            temperature: random.pick(&[3, 4, 8, 12, 12, 12, 15, 20, 20, 20, 21]),
+            target: random.pick(&[999, 1_000, 9_000, 20_000, 30_000, 50_000, 50_001]),
+        };
+    }
+    terms.count = random.pick(&[0, 0, 0, 0, 0, 0, 1, 1, 2, 3, 4, 5]);
+    terms
+}
+
+/// Two lines of no file, and the request.
+fn file(request: Request) -> PlantFile {
+    let term_lines = vec![24, 25];
+    PlantFile {
+        request,
+        term_lines,
+    }
+}
+
+/// A refusal of 1 to 4 or 14 has a culprit, and nothing else has.
 #[test]
 fn culprits_are_found_where_the_library_refuses() {
     let mut random = Random(131);
-    let mut counts = [0; 5];
+    let known = [PLANT_DATA, NO_NUMBER, READING_RANGE, COD_RATIO, TERMS];
+    let mut counts = [0; 6];
     for _ in 0..50_000 {
         let request = odd_request(&mut random);
         let due = number(&request);
-        for asked in [PLANT_DATA, NO_NUMBER, READING_RANGE, COD_RATIO] {
-            let found = !culprit::lines(asked, &request).is_empty();
+        for asked in known {
+            let found = !culprit::lines(asked, &file(request)).is_empty();
             assert_eq!(
                 found,
                 asked == due,
                 "asked for {asked}, due {due}: {request:?}"
             );
         }
-        counts[due.min(4) as usize] += 1;
+        counts[known.iter().position(|asked| *asked == due).unwrap_or(5)] += 1;
+    }
+    assert!(counts.iter().all(|count| *count > 500), "{counts:?}");
+}
+
+/// The same of terms and a date alone.
+#[test]
+fn faults_are_found_where_a_target_is_refused() {
+    let mut random = Random(366);
+    let mut counts = [0; 2];
+    for _ in 0..20_000 {
+        let terms = odd_terms(&mut random);
+        let date = odd_date(&mut random);
+        let (due, _) = target(&terms.to_target(date), &mut [0; TARGET_PAGE]);
+        let request = Request {
+            terms,
+            ..Request::default()
+        };
+        let told = consent::words(TERMS, &file(request), date);
+        let found = told.lines().count() > 1;
+        assert_eq!(found, due == TERMS, "{told}: {request:?}");
+        counts[usize::from(found)] += 1;
     }
     assert!(counts.iter().all(|count| *count > 500), "{counts:?}");
 }

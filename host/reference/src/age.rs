@@ -47,6 +47,18 @@ pub fn sludge_age(aerobic_age: u64, fraction: u64) -> u64 {
     up(1000 * aerobic_age, 1000 - fraction)
 }
 
+/// The part of the sludge age that an aerobic sludge age takes, thousandths;
+/// above 1000 where it is the longer one.
+pub fn aerobic_share(aerobic_age: u64, sludge_age: u64) -> u64 {
+    up(1000 * aerobic_age, sludge_age)
+}
+
+/// What an aerobic sludge age leaves of the sludge age, thousandths; none
+/// below zero.
+pub fn fraction_left(aerobic_age: u64, sludge_age: u64) -> Option<u64> {
+    1000u64.checked_sub(aerobic_share(aerobic_age, sludge_age))
+}
+
 /// U: sludge age multiplied by the temperature factor of decay.
 pub fn weighted_sludge_age(sludge_age: u64, decay: u64) -> u64 {
     down(sludge_age * decay, 1_000_000)

@@ -34,12 +34,30 @@ pub fn on_grid(flow: TankFlow, candidate: Candidate) -> bool {
         && (20..=25).contains(&candidate.thickening)
 }
 
-/// What depends on the fraction alone, or refusal 7.
+/// Nitrification in all terms of the consent, then cover in all; or 15 or 16.
+fn hold_terms(
+    plant: &Plant,
+    accepted: &[u64; 5],
+    fraction: u64,
+    nitrate: &Nitrate,
+) -> Result<(), u8> {
+    let terms = stages::terms(plant, accepted, fraction, nitrate);
+    if terms.iter().flatten().any(|term| !term.nitrifies()) {
+        return Err(refusal::TERM_NITRIFICATION);
+    }
+    if terms.iter().flatten().any(|term| !term.is_covered) {
+        return Err(refusal::TERM_NITRATE);
+    }
+    Ok(())
+}
+
+/// What depends on the fraction alone, or refusal 7, 15 or 16.
 fn biology(plant: &Plant, accepted: &[u64; 5], fraction: u64) -> Result<(Nitrate, Sludge), u8> {
     let nitrate = stages::nitrate(plant, accepted, fraction);
     if !nitrate.is_covered(accepted[0]) {
         return Err(refusal::NITRATE);
     }
+    hold_terms(plant, accepted, fraction, &nitrate)?;
     Ok((nitrate, stages::sludge(plant, accepted, &nitrate)))
 }
 
@@ -125,8 +143,8 @@ pub fn design(
     })
 }
 
-/// Acceptance, then the given candidate: refusals 1 to 4 and 6 to 10 in
-/// this order, else the sheet.
+/// Acceptance, then the given candidate: refusals 1 to 4, 14, 6, 7, 15, 16 and
+/// 8 to 10 in this order, else the sheet.
 pub fn examine(plant: &Plant, readings: &[Reading; 5], candidate: Candidate) -> Answer {
     let accepted = match accept(plant, readings) {
         Ok(accepted) => accepted,

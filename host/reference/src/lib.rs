@@ -21,6 +21,7 @@ pub mod settling;
 pub mod sheet;
 pub mod sludge;
 pub mod stages;
+pub mod terms;
 
 pub use choose::{census, choose};
 pub use day_log::{two_week_load, TwoWeekLoad};
@@ -30,3 +31,4 @@ pub use plant::{Plant, Precipitant, PrimarySettling, Process, Removal, Steps, Ta
 pub use reading::{accept, Reading};
 pub use sheet::{Answer, Sheet};
 pub use stages::explain;
+pub use terms::{target_in_force, Consent, Term};

@@ -14,8 +14,8 @@ pub fn nitrate_to_denitrify(to_nitrify: u64, nitrate_target: u64) -> u64 {
     to_nitrify.saturating_sub(nitrate_target)
 }
 
-/// K of pre-anoxic zone and step-feed at 10 to 12 degrees: linear between
-/// the tabulated fractions.
+/// K of pre-anoxic zone and step-feed up to 12 degrees: linear between the
+/// tabulated fractions.
 pub fn tabulated_capacity(fraction: u64) -> u64 {
     if fraction <= 300 {
         110 + down(20 * (fraction - 200), 100)
@@ -59,6 +59,20 @@ pub fn denitrification_capacity(
         Process::Simultaneous | Process::Intermittent => {
             capacity_by_uptake(fraction, uptake_for_capacity(weighted_age))
         }
+    }
+}
+
+/// K in a term of the consent: none at a fraction below those of the table.
+pub fn capacity_in_term(
+    process: Process,
+    fraction: u64,
+    temperature: u64,
+    weighted_age: u64,
+) -> u64 {
+    if fraction < 200 {
+        0
+    } else {
+        denitrification_capacity(process, fraction, temperature, weighted_age)
     }
 }
 

@@ -1,5 +1,7 @@
 //! Plant data and site, with their ranges.
 
+use crate::terms::Consent;
+
 #[derive(Clone, Copy, Debug, PartialEq, Eq)]
 pub enum Steps {
     Two,
@@ -75,6 +77,8 @@ pub struct Plant {
     pub primary_settling: PrimarySettling,
     /// External carbon dosed for denitrification, mg/m3 as COD
     pub dose: u32,
+    /// Terms of the consent, judged after the readings
+    pub consent: Consent,
 }
 
 impl Plant {

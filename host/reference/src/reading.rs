@@ -157,5 +157,8 @@ pub fn accept(plant: &Plant, readings: &[Reading; 5]) -> Result<[u64; 5], u8> {
     if 5 * cod > 11 * bod {
         return Err(refusal::COD_RATIO);
     }
+    if !plant.consent.is_valid() {
+        return Err(refusal::CONSENT);
+    }
     Ok(results)
 }

@@ -13,3 +13,6 @@ pub const DEPTH: u8 = 10;
 pub const SHORT_PAGE: u8 = 11;
 pub const DAY_LOG: u8 = 12;
 pub const DAY_VALUE: u8 = 13;
+pub const CONSENT: u8 = 14;
+pub const TERM_NITRIFICATION: u8 = 15;
+pub const TERM_NITRATE: u8 = 16;

@@ -1,7 +1,7 @@
-//! The stages of a candidate of the grid, in the paper's order: nitrate and
-//! sludge by the fraction alone; solids, surface and depth by return ratio
-//! and thickening time alone. Each gives its figures whether a rule is kept
-//! or not.
+//! The stages of a candidate of the grid, in the paper's order: nitrate, the
+//! terms of the consent and sludge by the fraction alone; solids, surface and
+//! depth by return ratio and thickening time alone. Each gives its figures
+//! whether a rule is kept or not.
 
 use crate::age::*;
 use crate::examine::{on_grid, Candidate};
@@ -11,6 +11,7 @@ use crate::reading::{accept, Reading};
 use crate::refusal;
 use crate::settling as step;
 use crate::sludge::*;
+use crate::terms::{Term, MOST_TERMS};
 
 /// Figures of sludge age and nitrate.
 #[derive(Clone, Copy, Debug)]
@@ -52,6 +53,68 @@ impl Nitrate {
     pub fn left_to_bod(&self) -> u64 {
         left_to_bod(self.to_denitrify, self.by_dose)
     }
+}
+
+/// Figures of a term of the consent.
+#[derive(Clone, Copy, Debug, PartialEq, Eq)]
+pub struct InTerm {
+    /// Part of the sludge age that the term's aerobic age takes, thousandths.
+    pub aerobic_share: u64,
+    /// The term's fraction; 0 where nitrification is lost.
+    pub fraction: u64,
+    /// D of the term.
+    pub to_denitrify: u64,
+    /// K of the term.
+    pub capacity: u64,
+    /// Nitrate that the BOD removes in the term.
+    pub by_bod: u64,
+    /// Nitrate that BOD and dose remove together in the term.
+    pub removable: u64,
+    pub is_covered: bool,
+}
+
+impl InTerm {
+    /// Whether the sludge age holds the term's aerobic age.
+    pub fn nitrifies(&self) -> bool {
+        self.aerobic_share <= 1000
+    }
+}
+
+/// A term, with sludge age, nitrogen to be nitrified and dose of the design.
+fn in_term(plant: &Plant, bod: u64, fraction: u64, nitrate: &Nitrate, term: &Term) -> InTerm {
+    let temperature = u64::from(term.temperature);
+    let factor = safety_factor(u64::from(plant.bod_load));
+    let aerobic_age = aerobic_sludge_age(factor, growth(temperature));
+    let left = fraction_left(aerobic_age, nitrate.age);
+    let fraction = left.map_or(0, |left| left.min(fraction));
+    let weighted_age = weighted_sludge_age(nitrate.age, decay(temperature));
+    let capacity = capacity_in_term(plant.process, fraction, temperature, weighted_age);
+    let target = u64::from(term.nitrate_target);
+    let to_denitrify = nitrate_to_denitrify(nitrate.to_nitrify, target);
+    let by_bod = removed_by_bod(capacity, bod);
+    InTerm {
+        aerobic_share: aerobic_share(aerobic_age, nitrate.age),
+        fraction,
+        to_denitrify,
+        capacity,
+        by_bod,
+        removable: by_bod + nitrate.by_dose,
+        is_covered: is_covered(capacity, bod, nitrate.by_dose, to_denitrify),
+    }
+}
+
+/// The terms of an accepted consent in their order; none from the count on.
+pub fn terms(
+    plant: &Plant,
+    accepted: &[u64; 5],
+    fraction: u64,
+    nitrate: &Nitrate,
+) -> [Option<InTerm>; MOST_TERMS] {
+    let mut all = [None; MOST_TERMS];
+    for (place, term) in plant.consent.named().iter().enumerate() {
+        all[place] = Some(in_term(plant, accepted[0], fraction, nitrate, term));
+    }
+    all
 }
 
 /// Sludge production and sludge mass.
@@ -142,10 +205,12 @@ pub struct Stages {
     pub by_bod: u64,
     /// Nitrate that BOD and dose remove together.
     pub removable: u64,
+    /// The terms of the consent; none from the count on.
+    pub terms: [Option<InTerm>; MOST_TERMS],
     pub settling: Settling,
 }
 
-/// The stages of a candidate, or the refusal 1 to 4 or 6.
+/// The stages of a candidate, or the refusal 1 to 4, 14 or 6.
 pub fn explain(plant: &Plant, readings: &[Reading; 5], candidate: Candidate) -> Result<Stages, u8> {
     let accepted = accept(plant, readings)?;
     if !on_grid(plant.tank_flow, candidate) {
@@ -153,12 +218,14 @@ pub fn explain(plant: &Plant, readings: &[Reading; 5], candidate: Candidate) -> 
     }
     let time = u64::from(candidate.thickening);
     let ratio = u64::from(candidate.return_ratio);
-    let nitrate = nitrate(plant, &accepted, u64::from(candidate.fraction));
+    let fraction = u64::from(candidate.fraction);
+    let nitrate = nitrate(plant, &accepted, fraction);
     let by_bod = nitrate.by_bod(accepted[0]);
     Ok(Stages {
         nitrate,
         by_bod,
         removable: by_bod + nitrate.by_dose,
+        terms: terms(plant, &accepted, fraction, &nitrate),
         settling: settling(plant, ratio, time, step::cube_root(time)),
     })
 }

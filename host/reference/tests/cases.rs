@@ -26,3 +26,5 @@ mod readings;
 mod steps;
 #[path = "cases/table.rs"]
 mod table;
+#[path = "cases/terms.rs"]
+mod terms;

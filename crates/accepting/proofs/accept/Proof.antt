@@ -3,7 +3,7 @@ use borrow.Author.Needs.{needs}
 use mathlib.Core.Path.{sym, _∙_}
 use borrow.Author.Tests.{not-true, not-false}
 use denote.Floats.{passes}
-use Rattle.rules.proofs.RangeFacts.{plant-ranges}
+use Rattle.rules.proofs.RangeFacts.{flow-least}
 use Rattle.accepting.proofs.Gathering.{out-of-range, in-range}
 use Rattle.accepting.proofs.accept.Statement.{statement}
 use Rattle.accepting.proofs.accept.Tie as tie
@@ -14,12 +14,17 @@ returns c =
 
 accept-readings-requires : tie.Need-accept-readings-requires
 accept-readings-requires c κs =
-    plant-ranges (c .before .before .args .plant) .0 (passes _ (sym (c .before .plant-in-range .ensures) ∙ not-false _ (c .if1 .left))) .flow .least
+    let tested = c .before .before in
+    flow-least (tested .before .args .plant) (passes _ (sym (tested .plant-in-range .ensures) ∙ not-false _ (c .before .if1 .left)))
 
 returns-2 : tie.Need-returns-2
 returns-2 c =
-    c .accept-readings .ensures
-    ∙ in-range (c .before .before .before .args .plant) (c .before .before .before .args .readings) (sym (c .before .before .plant-in-range .ensures) ∙ not-false _ (c .before .if1 .left))
+    let valid = c .before in
+    let answered = valid .before in
+    let passed = answered .before .before in
+    let tested = passed .before in
+    rw (c .then-terms .ensures, valid .consent-valid .ensures, answered .accept-readings .ensures)
+    (in-range (tested .before .args .plant) (tested .before .args .readings) (sym (tested .plant-in-range .ensures) ∙ not-false _ (passed .if1 .left)))
 
 pub accept-spec : {M : Type 1} → statement M
-accept-spec = tie.close (tie.spec (λ c κs. search needs) returns accept-readings-requires returns-2)
+accept-spec = tie.close (tie.spec (λ c κs. search needs) returns accept-readings-requires (λ c κs. search needs) (λ c κs. search needs) returns-2)

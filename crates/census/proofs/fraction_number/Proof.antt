@@ -11,10 +11,10 @@ use Rattle.census.proofs.fraction_number.Tie as tie
 
 returns : tie.Need-returns
 unfolding fractionNumber
-returns c = (
+returns c = let start = c .before .before .before in (
   c .verdict-number .ensures .0
       ∙ (ap verdictNumber (c .before .fraction-verdict .ensures)
-      ∙ ap (λ (r : Reactor). verdictNumber (verdict (fractionRules r))) (c .before .before .reactor .ensures .0)),
+      ∙ ap (λ (r : Reactor). verdictNumber (verdict (fractionRules (start .args .plant) (start .args .concentrations) r))) (c .before .before .reactor .ensures .0)),
   c .verdict-number .ensures .1,
 )
 

@@ -9,7 +9,7 @@ use borrow.Author.Needs.{needs}
 use native.Mathlib.Omega.{arith}
 use lib.ListN.{getD}
 use Rattle.rules.specs.Limits.{leastFraction, mostFraction, leastRatio, leastTime, mostTime, mostReactorSolids, mostSettlingVolume}
-use Rattle.rules.specs.Ranges.{Between, GridFraction, GridTime}
+use Rattle.rules.specs.Ranges.{Between, GridFraction, GridRatio, GridTime}
 use Rattle.choosing.specs.declared.Tank.{Tank}
 use Rattle.choosing.specs.Keys.{noneYet, place, firstPlace, tankOf, Visited, LeastKey, Lightest}
 use Rattle.choosing.proofs.Growing.{start}
@@ -20,31 +20,31 @@ use Rattle.choosing.proofs.sweep.Statement.{statement}
 use Rattle.choosing.proofs.sweep.Tie as tie
 
 abbrev Inv-time : tie.InvT-time
-Inv-time plant concentrations last table best₀ lightest f mass r h₀ best h =
+Inv-time plant concentrations seasons last table best₀ lightest f mass r h₀ best h =
     Between leastTime (mostTime + 1) h × LeastKey plant concentrations (Visited plant (place f r h)) best
 
 abbrev μ-time : tie.MeasureT-time
-μ-time plant concentrations last table best₀ lightest f mass r h₀ best h = mostTime + 1 - h
+μ-time plant concentrations seasons last table best₀ lightest f mass r h₀ best h = mostTime + 1 - h
 
 abbrev Inv-ratio : tie.InvT-ratio
-Inv-ratio plant concentrations last table best₀ lightest f mass r₀ best r =
+Inv-ratio plant concentrations seasons last table best₀ lightest f mass r₀ best r =
     Between leastRatio (last + 1) r × LeastKey plant concentrations (Visited plant (place f r leastTime)) best
 
 abbrev μ-ratio : tie.MeasureT-ratio
-μ-ratio plant concentrations last table best₀ lightest f mass r₀ best r = last + 1 - r
+μ-ratio plant concentrations seasons last table best₀ lightest f mass r₀ best r = last + 1 - r
 
 abbrev Inv-fraction : tie.InvT-fraction
-Inv-fraction plant concentrations last table best₀ lightest₀ f₀ best lightest f =
+Inv-fraction plant concentrations seasons last table best₀ lightest₀ f₀ best lightest f =
     Between leastFraction (mostFraction + 1) f
     × LeastKey plant concentrations (Visited plant (firstPlace f)) best
     × Lightest plant concentrations f lightest
     × (lightest ≤ noneYet)
 
 abbrev μ-fraction : tie.MeasureT-fraction
-μ-fraction plant concentrations last table best₀ lightest₀ f₀ best lightest f = mostFraction + 1 - f
+μ-fraction plant concentrations seasons last table best₀ lightest₀ f₀ best lightest f = mostFraction + 1 - f
 
 tanks-requires : tie.Need-tanks-requires Inv-time μ-time Inv-ratio μ-ratio Inv-fraction μ-fraction
-tanks-requires c κs = (c .before .pre .0, omega arith, c .before .pre .2)
+tanks-requires c κs = (c .before .pre .0, omega arith, c .before .pre .3)
 
 fraction-holds : tie.Need-fraction-holds Inv-time μ-time Inv-ratio μ-ratio Inv-fraction μ-fraction
 fraction-holds c =
@@ -52,7 +52,9 @@ fraction-holds c =
     (omega arith, start (first .args .plant) (first .args .concentrations), inl refl, le-refl noneYet)
 
 kept-mass-requires : tie.Need-kept-mass-requires Inv-time μ-time Inv-ratio μ-ratio Inv-fraction μ-fraction
-kept-mass-requires c κs = (c .before .before .before .before .pre .0, c .before .before .before .before .pre .1, omega arith)
+kept-mass-requires c κs =
+    let start = c .before .before .before .before in
+    (start .pre .0, start .pre .1, omega arith, start .pre .2)
 
 fraction-again : tie.Need-fraction-again Inv-time μ-time Inv-ratio μ-ratio Inv-fraction μ-fraction
 fraction-again c =
@@ -107,16 +109,20 @@ improved-requires c κs =
     let ratio = at .before .before .before .before in
     let mass = ratio .before .before in
     let first = mass .before .before .before .before .before in
-    let most = tank-most (first .args .plant) (first .args .concentrations) (first .pre .0) (first .pre .1) (ratio .ratio .r) (at .before .before .time .h) (omega arith) (omega arith) in (
+    let flow = mass .before .before .before .before in
+    let f : GridFraction (mass .before .before .fraction .f) = omega (arith, mass .before .before .fraction .inv .0, mass .before .fraction-test) in
+    let r : GridRatio (ratio .ratio .r) = omega (arith, ratio .ratio .inv .0, at .before .before .before .ratio-test, flow .largest-return-ratio .ensures .1) in
+    let h : GridTime (at .before .before .time .h) = omega (arith, at .before .before .time .inv .0, at .before .time-test) in
+    let most = tank-most (first .args .plant) (first .args .concentrations) (first .pre .0) (first .pre .1) (ratio .ratio .r) (at .before .before .time .h) r h in (
       mass-most (first .args .plant) (first .args .concentrations) (first .pre .0) (first .pre .1) (mass .before .before .fraction .f) (mass .kept-mass .result)
-          (omega arith)
+          f
           (sym (mass .kept-mass .ensures))
           (below (ratio .before)),
       subst (λ (t : Tank). t .solids ≤ mostReactorSolids) (sym (entry at)) (most .solids),
       subst (λ (t : Tank). t .volume ≤ mostSettlingVolume) (sym (entry at)) (most .volume),
-      omega arith,
-      omega arith,
-      omega arith,
+      f .most,
+      r .most,
+      h .most,
     )
 
 time-again : tie.Need-time-again Inv-time μ-time Inv-ratio μ-ratio Inv-fraction μ-fraction
@@ -169,7 +175,7 @@ times-done c =
     (flow .largest-return-ratio .ensures .0)
     (flow .largest-return-ratio .ensures .1)
     (fraction .fraction .f)
-    (omega arith)
+    (omega (arith, fraction .fraction .inv .0, ratio .before .before .before .fraction-test))
     (ratio .ratio .r)
     (c .before .time .best)
     (subst

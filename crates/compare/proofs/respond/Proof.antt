@@ -1,7 +1,7 @@
 -- `respond` is safe and ends: the request's and the page's parts are within their arrays. Assumes nothing.
 use lib.ListN.{replicate}
 use Rattle.compare.proofs.Answering.{counted, front-room}
-use Rattle.request.specs.Layout.{longestRequest}
+use Rattle.request.specs.Frames.{longestRequest}
 use borrow.Author.Needs.{needs}
 use Rattle.compare.proofs.respond.Statement.{statement}
 use Rattle.compare.proofs.respond.Tie as tie

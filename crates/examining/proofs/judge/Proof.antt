@@ -26,27 +26,31 @@ inside : (c : tie.Else1) → OnGrid (c .before .before .args .candidate)
 inside c = on-grid (c .before .before .args .plant .tank) (c .before .before .args .candidate) (subst T (sym (passed c)) tt)
 
 reactor-requires : tie.Need-reactor-requires
-reactor-requires c κs = (c .before .before .pre .0, c .before .before .pre .1, inside c .fraction)
+reactor-requires c κs =
+    let start = c .before .before .before in
+    (start .pre .0, start .pre .1, inside (c .before) .fraction, c .seasons-of .ensures)
 
 judge-tank-requires : tie.Need-judge-tank-requires
 judge-tank-requires c κs =
     let reacted = c .before .before .before .before in
-    let start = reacted .before .before .before in (
-      (start .pre .0, start .pre .1, inside (reacted .before), record { value = reacted .reactor .ensures .0; bounds = reacted .reactor .ensures .1 }),
+    let termed = reacted .before in
+    let start = termed .before .before .before in (
+      (start .pre .0, start .pre .1, inside (termed .before), record { value = reacted .reactor .ensures .0; bounds = reacted .reactor .ensures .1 }),
       c .bottom-sludge .ensures .0,
     )
 
 bottom-sludge-requires : tie.Need-bottom-sludge-requires
 bottom-sludge-requires c κs =
-    let reacted = c .before .before .before in
-    (reacted .before .before .before .pre .0 .index, inside (reacted .before) .time)
+    let termed = c .before .before .before .before in
+    (termed .before .before .before .pre .0 .index, inside (termed .before) .time)
 
 returns-2 : tie.Need-returns-2
 returns-2 c =
     let judged = c .before .before .before in
     let reacted = judged .before in
-    let start = reacted .before .before .before in
-    fraction-broken (start .args .plant) (start .args .concentrations) (start .args .candidate) (passed (reacted .before))
+    let termed = reacted .before in
+    let start = termed .before .before .before in
+    fraction-broken (start .args .plant) (start .args .concentrations) (start .args .candidate) (passed (termed .before))
     (reacted .reactor .result) (reacted .reactor .ensures .0)
     (c .before .refusal .given .0 .0)
     (sym (judged .fraction-verdict .ensures) ∙ c .before .refusal .given .1)
@@ -56,9 +60,10 @@ returns-3 c =
     let told = c .before .before in
     let judged = told .before .before in
     let reacted = judged .before in
-    let start = reacted .before .before .before in
+    let termed = reacted .before in
+    let start = termed .before .before .before in
     c .judge-tank .ensures
-    ∙ to-the-tank (start .args .plant) (start .args .concentrations) (start .args .candidate) (passed (reacted .before))
+    ∙ to-the-tank (start .args .plant) (start .args .concentrations) (start .args .candidate) (passed (termed .before))
     (reacted .reactor .result) (reacted .reactor .ensures .0)
     (sym (judged .fraction-verdict .ensures) ∙ told .enum-told .given .1)
 
@@ -68,6 +73,7 @@ judge-spec =
     (tie.spec
     (λ c κs. search needs)
     returns
+    (λ c κs. search needs)
     reactor-requires
     (λ c κs. search needs)
     (λ c. search needs)

@@ -12,10 +12,18 @@ returns c =
     let fraction = tank .before in
     let settled = fraction .before in
     let reacted = settled .before .before in
+    let terms = reacted .before in
+    let start = terms .before in
     record {
       reactor = reacted .reactor .ensures .0;
+      seasons = terms .seasons-of .ensures;
       settling = settled .settling .ensures .0;
-      verdict = c .after .ensures ∙ rw (tank .tank-verdict .ensures, fraction .fraction-verdict .ensures) (sym (verdict-append (fractionRules (reacted .reactor .result)) (tankRules (reacted .before .args .plant) (settled .settling .result))));
+      verdict =
+          c .after .ensures
+          ∙ rw (tank .tank-verdict .ensures, fraction .fraction-verdict .ensures)
+          (sym
+          (verdict-append (fractionRules (start .args .plant) (start .args .concentrations) (reacted .reactor .result))
+          (tankRules (start .args .plant) (settled .settling .result))));
       reactorBounds = reacted .reactor .ensures .1;
       settlingBounds = settled .settling .ensures .1;
     }
@@ -24,6 +32,7 @@ pub stages-of-spec : {M : Type 1} → statement M
 stages-of-spec =
     tie.close
     (tie.spec
+    (λ c κs. search needs)
     (λ c κs. search needs)
     (λ c κs. search needs)
     (λ c κs. search needs)

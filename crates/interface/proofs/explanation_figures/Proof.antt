@@ -1,6 +1,6 @@
 -- `explanation_figures` meets its contract: each case is the definition's. Assumes nothing.
 use borrow.Author.Needs.{needs}
-use Rattle.rules.specs.Answers.{explanationFigures}
+use Rattle.rules.specs.Explanations.{explanationFigures}
 use Rattle.interface.proofs.explanation_figures.Statement.{statement}
 use Rattle.interface.proofs.explanation_figures.Tie as tie
 

@@ -1,6 +1,6 @@
 -- `explanation_number` meets its contract: each case is the definition's. Assumes nothing.
 use borrow.Author.Needs.{needs}
-use Rattle.rules.specs.Answers.{explanationNumber}
+use Rattle.rules.specs.Explanations.{explanationNumber}
 use Rattle.interface.proofs.explanation_number.Statement.{statement}
 use Rattle.interface.proofs.explanation_number.Tie as tie
 

@@ -3,7 +3,7 @@ use borrow.Author.Needs.{needs}
 use mathlib.Core.Path.{_∙_, sym}
 use native.Mathlib.Omega.{arith}
 use Rattle.request.proofs.Lengths.{data-length}
-use Rattle.request.specs.Layout.{candidateWords}
+use Rattle.request.specs.Frames.{candidateWords}
 use Rattle.interface.specs.Calls.{answered, examinedAt, examined}
 use Rattle.interface.proofs.Outcomes.{request-malformed, request-answered}
 use Rattle.interface.proofs.pewgull_examine.Statement.{statement}

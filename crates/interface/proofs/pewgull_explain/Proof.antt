@@ -4,7 +4,7 @@ use borrow.Author.Needs.{needs}
 use mathlib.Core.Path.{_∙_, sym}
 use native.Mathlib.Omega.{arith}
 use Rattle.request.proofs.Lengths.{data-length}
-use Rattle.request.specs.Layout.{candidateWords}
+use Rattle.request.specs.Frames.{candidateWords}
 use Rattle.interface.specs.Calls.{figured, explainedAt, explained}
 use Rattle.interface.proofs.Outcomes.{request-malformed, request-answered}
 use Rattle.interface.proofs.pewgull_explain.Statement.{statement}

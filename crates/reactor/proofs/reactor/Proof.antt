@@ -1,20 +1,41 @@
 -- `reactor` meets its contract: what each call ensures, put in from the last call back, is the definition's own chain of
--- figures, and each figure has its limit from its call. Assumes nothing.
+-- figures, with the design's a and F from its season, and each figure has its limit from its call. Assumes nothing.
 use borrow.Author.Needs.{needs}
+use mathlib.Core.Path.{_≡_, ap, _∙_}
 use native.Mathlib.Nat.{mul-le-mul}
 use native.Mathlib.Omega.{arith}
+use Rattle.rules.specs.AgeNitrate.{safetyFactor, decay, aerobicAge, correctedAge}
 use Rattle.rules.specs.ReactorSteps.{reactorOf}
+use Rattle.rules.specs.declared.Plant.{Plant}
+use Rattle.reactor.specs.Seasons.{seasonWith, seasonsOf}
+use Rattle.reactor.specs.declared.Seasons.{Seasons}
 use Rattle.reactor.proofs.reactor.Statement.{statement}
 use Rattle.reactor.proofs.reactor.Tie as tie
 
+-- a and F of the design are its season's
+design-age : (p : Plant) (s : Seasons) → s ≡ seasonsOf p → s .design .«aerobic_age» ≡ aerobicAge (safetyFactor (p .load)) (p .«design_temperature»)
+unfolding seasonsOf seasonWith
+design-age p s e = ap (λ (t : Seasons). t .design .«aerobic_age») e
+
+design-decay : (p : Plant) (s : Seasons) → s ≡ seasonsOf p → s .design .decay ≡ decay (p .«design_temperature»)
+unfolding seasonsOf seasonWith
+design-decay p s e = ap (λ (t : Seasons). t .design .decay) e
+
+sludge-age-requires : tie.Need-sludge-age-requires
+sludge-age-requires c κs = let start = c .before .before .before in (start .pre .3 .bounds .designAge, start .pre .2 .most)
+
+corrected-by-requires : tie.Need-corrected-by-requires
+corrected-by-requires c κs =
+    let start = c .before .before .before .before in
+    (omega (arith, c .sludge-age .ensures .1), start .pre .3 .bounds .design .decay)
+
 mul-removes : tie.Need-mul-removes
 mul-removes c =
-    let corrected = c .before .before .before .before in
-    let start = corrected .before .before .before .before .before .before .before in
+    let start = c .before .before .before .before .before .before .before .before .before in
     omega (arith, mul-le-mul (c .capacity .ensures .1) (start .pre .1 .bod .most))
 
 returns : tie.Need-returns
-unfolding reactorOf
+unfolding reactorOf correctedAge
 returns c =
     let sludge = c .before in
     let byDose = sludge .before in
@@ -23,9 +44,8 @@ returns c =
     let nitrified = denitrified .before .before in
     let corrected = nitrified .before in
     let age = corrected .before in
-    let aerobic = age .before in
-    let factor = aerobic .before in
-    let start = factor .before .before .before .before in (
+    let start = age .before .before .before .before in
+    let value = start .pre .3 .value in (
       rw (
         c .sludge-mass .ensures .0,
         sludge .sludge-production .ensures .0,
@@ -33,10 +53,10 @@ returns c =
         capacity .capacity .ensures .0,
         denitrified .denitrified .ensures .0,
         nitrified .nitrified .ensures .0,
-        corrected .corrected-age .ensures .0,
+        corrected .corrected-by .ensures .0,
         age .sludge-age .ensures .0,
-        aerobic .aerobic-age .ensures .0,
-        factor .safety-factor .ensures .0,
+        design-age (start .args .plant) (start .args .seasons) value,
+        design-decay (start .args .plant) (start .args .seasons) value,
       ),
       record {
         fraction = start .pre .2;
@@ -56,11 +76,8 @@ reactor-spec =
     (tie.spec
     (λ c. search needs)
     (λ c. search needs)
-    (λ c. search needs)
-    (λ c κs. search needs)
-    (λ c κs. search needs)
-    (λ c κs. search needs)
-    (λ c κs. search needs)
+    sludge-age-requires
+    corrected-by-requires
     (λ c κs. search needs)
     (λ c. search needs)
     (λ c κs. search needs)

@@ -1,57 +1,52 @@
--- `decode` meets its contract: a request of another version, of another length, or its data decoded. Assumes nothing.
-use mathlib.Core.Path.{sym, ap, _∙_}
-use Prim.Native.Nat.{ℕ}
-use lib.Dec.{eqb}
+-- `decode` meets its contract: a malformed frame, or a whole request's data decoded. Assumes nothing.
+use mathlib.Core.Path.{_≡_, sym, _∙_}
+use Prim.Native.Nat.{_+_, _*_}
+use native.Mathlib.Omega.{arith}
+use lib.ListN.{length}
 use borrow.Author.Needs.{needs}
-use borrow.Author.Tests.{eq-eqb, ne-eqb, le-leb, lt-leb}
-use Rattle.request.specs.Layout.{version, decode, decodeWords}
+use Rattle.request.specs.Layout.{decode}
+use Rattle.request.specs.Frames.{dataWords}
+use Rattle.request.proofs.Lengths.{whole-length}
 use Rattle.request.proofs.decode.Statement.{statement}
 use Rattle.request.proofs.decode.Tie as tie
 
+-- a whole request has its length
+whole : (c : tie.After-enum-told) → length (c .before .before .before .before .args .bytes .now) ≡ 4 * (dataWords + c .before .before .before .before .args .own)
+whole c =
+    let framed = c .before .before in
+    whole-length _ _ (sym (framed .framed .ensures) ∙ c .enum-told .given .1)
+
+read-words-requires : tie.Need-read-words-requires
+read-words-requires c κs = omega (arith, whole (c .before))
+
+consent-requires : tie.Need-consent-requires
+consent-requires c κs = omega (arith, whole (c .before .before .before))
+
 returns : tie.Need-returns
 unfolding decode
-returns c = rw (lt-leb _ _ (c .if1 .taken))
+returns c = let held = c .before in rw (← held .before .before .framed .ensures, held .fault .given .1)
 
 returns-2 : tie.Need-returns-2
 unfolding decode
 returns-2 c =
-    let read = c .before in
-    rw (le-leb _ _ (read .before .if1 .left), ap (λ (w : ℕ). eqb w version) (sym (read .word .ensures)) ∙ ne-eqb _ _ (c .if2 .taken))
-
-returns-3 : tie.Need-returns-3
-unfolding decode
-returns-3 c =
-    let read = c .before .before in
-    rw (
-      le-leb _ _ (read .before .if1 .left),
-      ap (λ (w : ℕ). eqb w version) (sym (read .word .ensures)) ∙ eq-eqb _ _ (c .before .if2 .left),
-      ne-eqb _ _ (c .if3 .taken),
-    )
-
-returns-4 : tie.Need-returns-4
-unfolding decode
-returns-4 c =
-    let words = c .before .before in
-    let long = words .before .before in
-    let read = long .before .before in
-    rw (
-      le-leb _ _ (read .before .if1 .left),
-      ap (λ (w : ℕ). eqb w version) (sym (read .word .ensures)) ∙ eq-eqb _ _ (long .before .if2 .left),
-      eq-eqb _ _ (long .if3 .left),
-    )
-    (c .decode-words .ensures ∙ ap decodeWords (words .read-words .ensures))
+    let consent = c .before in
+    let read = consent .before .before in
+    let told = read .before .before in
+    let framed = told .before .before in
+    rw (← framed .framed .ensures, told .enum-told .given .1)
+    (c .decode-words .ensures ∙ rw (consent .consent .ensures, read .read-words .ensures))
 
 pub decode-spec : {M : Type 1} → statement M
 decode-spec =
     tie.close
     (tie.spec
+    (λ c. search needs)
+    (λ c κs. search needs)
+    (λ c. search needs)
+    (λ c. search needs)
+    (λ c. search needs)
+    read-words-requires
+    consent-requires
+    (λ c κs. search needs)
     returns
-    (λ c. search needs)
-    returns-2
-    (λ c. search needs)
-    (λ c. search needs)
-    returns-3
-    (λ c. search needs)
-    (λ c κs. search needs)
-    (λ c κs. search needs)
-    returns-4)
+    returns-2)

@@ -18,6 +18,7 @@ returns c =
     (tank .tank-flow .ensures i)
     (removal .removal .ensures i)
     (c .primary-settling .ensures i)
+    (process .before .args .consent)
 
 pub plant-spec : {M : Type 1} → statement M
 plant-spec =

@@ -6,7 +6,7 @@ use Rattle.settling.proofs.tank_verdict.Tie as tie
 returns : tie.Need-returns
 returns c =
     let depth = c .before .before in
-    rw (c .rule3 .ensures, c .before .rule2 .ensures, depth .rule .ensures, depth .before .before .before .before .before .solids-kept .ensures)
+    rw (c .rule3 .ensures, c .before .rule2 .ensures, depth .rule .ensures, depth .before .before .before .solids-kept .ensures)
 
 pub tank-verdict-spec : {M : Type 1} → statement M
-tank-verdict-spec = tie.close (tie.spec (λ c κs. search needs) (λ c. search needs) (λ c. search needs) (λ c κs. search needs) (λ c κs. search needs) (λ c κs. search needs) returns)
+tank-verdict-spec = tie.close (tie.spec (λ c. search needs) (λ c. search needs) (λ c κs. search needs) (λ c κs. search needs) (λ c κs. search needs) (λ c κs. search needs) returns)

@@ -23,11 +23,11 @@ fn rounded_up(temperature: u64, below: (u64, u64), above: (u64, u64)) -> u64 {
     factor
 }
 
-fn growth_rounded_up(temperature: u64) -> u64 {
+pub fn growth_rounded_up(temperature: u64) -> u64 {
     rounded_up(temperature, (1103, 1000), (1000, 1103))
 }
 
-fn decay_rounded_up(temperature: u64) -> u64 {
+pub fn decay_rounded_up(temperature: u64) -> u64 {
     rounded_up(temperature, (1000, 1072), (1072, 1000))
 }
 

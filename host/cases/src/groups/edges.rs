@@ -77,7 +77,7 @@ pub fn grid(cases: &mut Collection) {
 
 /// Wrong versions and unknown kinds.
 pub fn malformed(cases: &mut Collection) {
-    for version in [0, EARLIER_VERSION, LATER_VERSION, 256, 0x0100_0000] {
+    for version in [0, 1, EARLIER_VERSION, LATER_VERSION, 256, 0x0100_0000] {
         cases.examine("wrong version", case_a().with(VERSION, version));
     }
     for version in [EARLIER_VERSION, LATER_VERSION] {

@@ -9,6 +9,10 @@ mod nitrate;
 mod pages;
 mod readings;
 mod settling;
+mod term_choices;
+mod term_degrees;
+mod term_lines;
+mod terms;
 
 use crate::collection::Collection;
 use crate::random::Random;
@@ -49,5 +53,18 @@ pub fn all() -> Collection {
     dose::saved_oxygen(&mut cases);
     dose::designs(&mut cases, &mut random);
     dose::lower_fractions(&mut cases, &mut random);
+    terms::ranges(&mut cases);
+    terms::order(&mut cases);
+    term_lines::cover(&mut cases, &mut random);
+    term_lines::fraction_200(&mut cases, &mut random);
+    term_lines::nitrification(&mut cases, &mut random);
+    term_degrees::just_lost(&mut cases);
+    term_degrees::degrees(&mut cases);
+    term_lines::dose(&mut cases, &mut random);
+    term_lines::as_design(&mut cases, &mut random);
+    term_choices::choices(&mut cases, &mut random);
+    term_choices::no_design(&mut cases, &mut random);
+    term_choices::four(&mut cases, &mut random);
+    term_choices::plain(&mut cases, &mut random);
     cases
 }

@@ -1,6 +1,7 @@
 //! Choices, censuses, examinations and two-week loads per second of the library
-//! and of the reference, on the same plants and day logs, the time of a census beside that of a
-//! choice, and the stack that a call takes.
+//! and of the reference, on the same plants and day logs; the time of a census
+//! beside that of a choice, and of a choice with four terms beside one without;
+//! and the stack that a call takes.
 
 use cases::model;
 use cases::plants;
@@ -8,6 +9,7 @@ use cases::random::Random;
 use cases::request::*;
 use comparison::logs;
 use comparison::stack::stack_of;
+use comparison::targets;
 use library::number::{NO_DESIGN, SHEET};
 use library::PAGE_LENGTH as PAGE;
 use std::hint::black_box;
@@ -24,7 +26,7 @@ fn chosen(request: &Request) -> u32 {
 }
 
 /// For each tank flow and process three plants with a design and one
-/// without, each with a candidate; none has a dose.
+/// without, each with a candidate; none has a dose or a term.
 fn benchmark_plants() -> Vec<Request> {
     let mut random = Random::new(6_000);
     let mut found = Vec::new();
@@ -55,6 +57,23 @@ fn benchmark_plants() -> Vec<Request> {
 fn dosed(plants: &[Request]) -> Vec<Request> {
     let dosed = |plant: &Request| plant.with(DOSE, 50_000);
     plants.iter().map(dosed).collect()
+}
+
+/// The same plants with a colder winter, whose target is looser, and three
+/// warmer terms at the design's target.
+fn with_four_terms(plants: &[Request]) -> Vec<Request> {
+    let four = |plant: &Request| {
+        let design = plant.get(DESIGN_TEMPERATURE);
+        let target = plant.get(NITRATE_TARGET);
+        let warmer = |degrees: u32| (design + degrees).min(20);
+        plant.with_terms(&[
+            [11, 16, 3, 15, design - 1, (2 * target).min(50_000)],
+            [3, 16, 5, 31, warmer(1), target],
+            [6, 1, 9, 15, warmer(4), target],
+            [9, 16, 11, 15, warmer(2), target],
+        ])
+    };
+    plants.iter().map(four).collect()
 }
 
 /// Runs over all requests until the least time has passed: calls per second.
@@ -91,7 +110,7 @@ fn rates(
 
 fn row(name: &str, (library, reference): (f64, f64)) {
     let ratio = library / reference;
-    println!("{name:<26}{library:>14.0}{reference:>14.0}{ratio:>9.1}");
+    println!("{name:<28}{library:>14.0}{reference:>14.0}{ratio:>9.1}");
 }
 
 /// The requests to choose of some plants.
@@ -124,13 +143,15 @@ fn censuses(plants: &[Request]) {
     row("census", rates(&all, census, by_reference));
 }
 
-/// The least times of a choice and of a census, of alternating calls: other
-/// work on the machine can only add to them.
-fn least_times(request: &[u8]) -> [Duration; 2] {
-    let calls: [fn(&[u8]) -> u32; 2] = [choice, census];
+/// A call and its request.
+type Timed<'a> = (fn(&[u8]) -> u32, &'a [u8]);
+
+/// The least times of two calls in turn: other work on the machine can only
+/// add to them.
+fn least_times(calls: [Timed; 2]) -> [Duration; 2] {
     let mut least = [Duration::MAX; 2];
     for _ in 0..ALTERNATIONS {
-        for (least, call) in least.iter_mut().zip(calls) {
+        for (least, (call, request)) in least.iter_mut().zip(calls) {
             let start = Instant::now();
             black_box(call(black_box(request)));
             *least = start.elapsed().min(*least);
@@ -139,15 +160,37 @@ fn least_times(request: &[u8]) -> [Duration; 2] {
     least
 }
 
-/// The time of a census in hundredths of that of a choice, over some plants.
-fn census_beside_choice(name: &str, plants: &[Request], wanted: impl Fn(&Request) -> bool) -> f64 {
+/// The time of the second of all pairs of calls in hundredths of the first.
+fn share_of_time<'a>(pairs: impl Iterator<Item = [Timed<'a>; 2]>) -> f64 {
     let mut all = [Duration::ZERO; 2];
-    for request in requests(plants, wanted) {
-        for (all, time) in all.iter_mut().zip(least_times(&request)) {
+    for pair in pairs {
+        for (all, time) in all.iter_mut().zip(least_times(pair)) {
             *all += time;
         }
     }
-    let share = 100.0 * all[1].as_secs_f64() / all[0].as_secs_f64();
+    100.0 * all[1].as_secs_f64() / all[0].as_secs_f64()
+}
+
+/// The time of a choice with four terms in hundredths of that without, over
+/// all plants.
+fn four_terms_beside_none(plants: &[Request]) -> f64 {
+    let without = requests(plants, |_| true);
+    let with = requests(&with_four_terms(plants), |_| true);
+    let pairs = without.iter().zip(&with);
+    let share = share_of_time(
+        pairs.map(|(without, with)| [(choice as _, &without[..]), (choice as _, &with[..])]),
+    );
+    println!("time of a choice with four terms beside one without: {share:.0}%");
+    share
+}
+
+/// The time of a census in hundredths of that of a choice, over some plants.
+fn census_beside_choice(name: &str, plants: &[Request], wanted: impl Fn(&Request) -> bool) -> f64 {
+    let requests = requests(plants, wanted);
+    let pairs = requests.iter();
+    let share = share_of_time(
+        pairs.map(|request| [(choice as _, &request[..]), (census as _, &request[..])]),
+    );
     println!("census, {name}: {share:.0}% of the time of a choice");
     share
 }
@@ -175,10 +218,12 @@ fn loads() {
 
 /// The most stack that a call takes over all plants.
 fn stacks(plants: &[Request]) {
-    let mut most = [0; 5];
+    let mut most = [0; 6];
     let log = &ten_years()[0];
+    let winter = [11, 16, 3, 15, 8, 20_000];
+    let target = targets::request(4, &[winter; MOST_TERMS], (2, 29));
     let mut page = [0; PAGE];
-    for plant in plants {
+    for plant in plants.iter().chain(&with_four_terms(plants)) {
         let (examine, choose) = (plant.examine_bytes(), plant.choose_bytes());
         let taken = [
             stack_of(library::CHOOSE, &choose, &mut page),
@@ -186,6 +231,7 @@ fn stacks(plants: &[Request]) {
             stack_of(library::EXPLAIN, &examine, &mut page),
             stack_of(library::CENSUS, &choose, &mut page),
             stack_of(library::LOAD, log, &mut page),
+            stack_of(library::TARGET, &target, &mut page),
         ];
         assert_eq!(taken[0].0, chosen(plant));
         for (most, (_, bytes)) in most.iter_mut().zip(taken) {
@@ -193,8 +239,8 @@ fn stacks(plants: &[Request]) {
         }
     }
     println!(
-        "stack, bytes: choose {}, examine {}, explain {}, census {}, load {}",
-        most[0], most[1], most[2], most[3], most[4]
+        "stack, bytes: choose {}, examine {}, explain {}, census {}, load {}, target {}",
+        most[0], most[1], most[2], most[3], most[4], most[5]
     );
 }
 
@@ -204,12 +250,14 @@ fn main() {
     println!("{count} plants; a request's bytes to its listing; medians of {ROUNDS} rounds");
     let title = "calls per second";
     println!(
-        "{title:<26}{:>14}{:>14}{:>9}",
+        "{title:<28}{:>14}{:>14}{:>9}",
         "library", "reference", "ratio"
     );
     let with_design = |plant: &Request| chosen(plant) == SHEET;
     choices("choose, all", &plants, |_| true);
     choices("choose, all with a dose", &dosed(&plants), |_| true);
+    let four_terms = with_four_terms(&plants);
+    choices("choose, all with four terms", &four_terms, |_| true);
     choices("choose, horizontal flow", &plants, |plant| {
         plant.get(TANK_FLOW) == 0
     });
@@ -228,4 +276,9 @@ fn main() {
     census_beside_choice("without a design", &plants, |plant| !with_design(plant));
     let share = census_beside_choice("all plants", &plants, |_| true);
     assert!(share <= 100.0, "a census is to be no slower than a choice");
+    let share = four_terms_beside_none(&plants);
+    assert!(
+        share <= 250.0,
+        "a choice with four terms is to take at most 2.5 times that without"
+    );
 }

@@ -44,6 +44,28 @@ fn every_rule_counts() {
     assert_eq!(examined_one_by_one(&plant, &readings_a()), counts);
 }
 
+/// Case A with a term that is not nitrified below 325, and then one that is
+/// not covered below 302.
+#[test]
+fn terms_count() {
+    let mut plant = plant_a();
+    plant.consent = consent(&[term(8, 36_000)]);
+    let mut counts = [0; 32];
+    counts[7] = 27_600;
+    counts[15] = 25 * 276;
+    counts[0] = 176 * 276;
+    assert_eq!(census(&plant, &readings_a()), Ok(counts));
+    assert_eq!(examined_one_by_one(&plant, &readings_a()), counts);
+    plant.consent = consent(&[term(11, 12_999)]);
+    counts[15] = 0;
+    counts[16] = 2 * 276;
+    counts[0] = 199 * 276;
+    assert_eq!(census(&plant, &readings_a()), Ok(counts));
+    assert_eq!(examined_one_by_one(&plant, &readings_a()), counts);
+    plant.consent = consent(&[term(11, 999)]);
+    assert_eq!(census(&plant, &readings_a()), Err(14));
+}
+
 #[test]
 fn refused_data_are_not_counted() {
     let plant = Plant {

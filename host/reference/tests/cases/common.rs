@@ -23,7 +23,33 @@ pub fn plant_a() -> Plant {
         removal: Removal::Scraper,
         primary_settling: PrimarySettling::None,
         dose: 0,
+        consent: Consent::none(),
     }
+}
+
+/// A term from one date to another, each month and day.
+pub fn dated(first: (u32, u32), last: (u32, u32), temperature: u32, target: u32) -> Term {
+    Term {
+        first_month: first.0,
+        first_day: first.1,
+        last_month: last.0,
+        last_day: last.1,
+        temperature,
+        nitrate_target: target,
+    }
+}
+
+/// A term of a winter.
+pub fn term(temperature: u32, target: u32) -> Term {
+    dated((11, 1), (3, 31), temperature, target)
+}
+
+/// A consent of up to four terms.
+pub fn consent(terms: &[Term]) -> Consent {
+    let mut consent = Consent::none();
+    consent.count = terms.len() as u32;
+    consent.terms[..terms.len()].copy_from_slice(terms);
+    consent
 }
 
 pub fn measured(values: [f32; 5]) -> [Reading; 5] {

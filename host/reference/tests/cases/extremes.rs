@@ -24,6 +24,7 @@ fn largest_plant() -> Plant {
         removal: Removal::Hopper,
         primary_settling: PrimarySettling::None,
         dose: 0,
+        consent: Consent::none(),
     }
 }
 

@@ -8,7 +8,7 @@ const HUGE: Reading = Reading::Measured(1e30);
 
 fn number(plant: &Plant, readings: &[Reading; 5], candidate: Candidate) -> u8 {
     let examined = examine(plant, readings, candidate);
-    if let number @ 1..=4 = examined.number() {
+    if let number @ (1..=4 | 14) = examined.number() {
         assert_eq!(choose(plant, readings), examined);
         assert_eq!(accept(plant, readings), Err(number));
     }
@@ -50,7 +50,39 @@ fn readings_before_cod_ratio() {
     assert_eq!(number(&plant_a(), &readings, candidate(0, 0, 0)), 2);
 }
 
-/// Faults 6 to 10 together, then taken away one by one.
+/// A consent of five terms with every reading's fault, then none of them.
+#[test]
+fn readings_and_cod_ratio_before_the_consent() {
+    let mut plant = plant_a();
+    plant.consent.count = 5;
+    let off = candidate(0, 0, 0);
+    let high = measured([200.0, 450.0, 150.0, 46.0, 8.0]);
+    for place in 0..5 {
+        for (reading, due) in [(HUGE, 3), (NAN, 2)] {
+            let mut readings = high;
+            readings[place] = reading;
+            assert_eq!(number(&plant, &readings, off), due);
+        }
+    }
+    assert_eq!(number(&plant, &high, off), 4);
+    assert_eq!(number(&plant, &readings_a(), off), 14);
+    plant.dose = 500_001;
+    assert_eq!(number(&plant, &readings_a(), off), 1);
+}
+
+/// Without a design by the rules 7 to 10, an invalid consent still gets 14.
+#[test]
+fn consent_before_no_design() {
+    let mut plant = plant_a();
+    plant.site_surface = 1;
+    assert_eq!(choose(&plant, &readings_a()), Answer::Refused(5));
+    plant.consent = consent(&[term(3, 10_000)]);
+    assert_eq!(choose(&plant, &readings_a()), Answer::Refused(14));
+}
+
+/// Faults 6 to 10, 15 and 16 together, then taken away one by one. Case A at
+/// 300 is not covered at 11 degrees and a target of 12,999, and does not
+/// nitrify at 8; the term that is not covered comes first.
 #[test]
 fn examining() {
     let mut plant = plant_a();
@@ -60,8 +92,13 @@ fn examining() {
     plant.site_depth = 3_000;
     let readings = readings_a();
     let of = |plant: &Plant, candidate| number(plant, &readings, candidate);
+    plant.consent = consent(&[term(11, 12_999), term(8, 50_000)]);
     assert_eq!(of(&plant, candidate(199, 92, 20)), 6);
     assert_eq!(of(&plant, candidate(299, 92, 20)), 7);
+    assert_eq!(of(&plant, candidate(300, 92, 20)), 15);
+    plant.consent.count = 1;
+    assert_eq!(of(&plant, candidate(300, 92, 20)), 16);
+    plant.consent = consent(&[term(11, 13_000)]);
     assert_eq!(of(&plant, candidate(300, 92, 20)), 8);
     assert_eq!(of(&plant, candidate(300, 91, 20)), 9);
     plant.site_surface = 1_000;

@@ -48,6 +48,77 @@ fn plant_and_site() {
     }
 }
 
+type TermField = fn(&mut Term) -> &mut u32;
+
+/// On a term from the first to the first of January.
+const TERM_FIELDS: [(TermField, u32, u32); 6] = [
+    (|term| &mut term.first_month, 1, 12),
+    (|term| &mut term.first_day, 1, 31),
+    (|term| &mut term.last_month, 1, 12),
+    (|term| &mut term.last_day, 1, 31),
+    (|term| &mut term.temperature, 4, 20),
+    (|term| &mut term.nitrate_target, 1_000, 50_000),
+];
+
+/// Refusal of a consent of so many terms, one of which has this figure.
+fn refusal_of_term(count: u32, place: usize, field: TermField, value: u32) -> Option<u8> {
+    let mut plant = plant_a();
+    plant.consent.terms = [dated((1, 1), (1, 1), 12, 10_000); 4];
+    plant.consent.count = count;
+    *field(&mut plant.consent.terms[place]) = value;
+    let target = target_in_force(&plant.consent, 2, 1);
+    assert_eq!(target.err(), refusal_of(&plant));
+    refusal_of(&plant)
+}
+
+/// Both edges of each figure, in each term of each count.
+#[test]
+fn terms_of_the_consent() {
+    for (field, least, most) in TERM_FIELDS {
+        for count in 0..=4 {
+            for place in 0..4 {
+                let with = |value| refusal_of_term(count, place, field, value);
+                assert_eq!(with(least), None);
+                assert_eq!(with(most), None);
+                let due = (place < count as usize).then_some(14);
+                for value in [0, least - 1, most + 1, u32::MAX] {
+                    assert_eq!(with(value), due);
+                }
+            }
+        }
+    }
+}
+
+#[test]
+fn number_of_terms() {
+    let mut plant = plant_a();
+    plant.consent.terms = [dated((1, 1), (1, 1), 12, 10_000); 4];
+    for (count, due) in [(4, None), (5, Some(14)), (u32::MAX, Some(14))] {
+        plant.consent.count = count;
+        assert_eq!(refusal_of(&plant), due);
+    }
+}
+
+/// The last day of each month and the day after it, first and last.
+#[test]
+fn days_of_each_month() {
+    let days = [31, 29, 31, 30, 31, 30, 31, 31, 30, 31, 30, 31];
+    let winter = consent(&[term(12, 10_000)]);
+    for (month, last) in (1..).zip(days) {
+        for (day, due) in [(0, Some(14)), (1, None), (last, None), (last + 1, Some(14))] {
+            for given in [
+                dated((month, day), (7, 1), 12, 10_000),
+                dated((7, 1), (month, day), 12, 10_000),
+            ] {
+                let mut plant = plant_a();
+                plant.consent = consent(&[given]);
+                assert_eq!(refusal_of(&plant), due, "{month}-{day}");
+            }
+            assert_eq!(target_in_force(&winter, month, day).err(), due);
+        }
+    }
+}
+
 fn refusal_with(place: usize, reading: Reading) -> Option<u8> {
     let mut readings = measured([2_000.0, 4_400.0, 150.0, 46.0, 8.0]);
     if place == 0 {

@@ -8,9 +8,21 @@ fn temperature_factors_at_other_degrees() {
     assert_eq!(age::growth(16), 906_618);
     assert_eq!(age::growth(17), 821_956);
     assert_eq!(age::growth(10), 1_632_590);
+    assert_eq!(age::growth(9), 1_800_746);
+    assert_eq!(age::growth(8), 1_986_222);
+    assert_eq!(age::growth(7), 2_190_802);
+    assert_eq!(age::growth(6), 2_416_454);
+    assert_eq!(age::growth(5), 2_665_348);
+    assert_eq!(age::growth(4), 2_939_878);
     assert_eq!(age::decay(16), 1_072_000);
     assert_eq!(age::decay(17), 1_149_184);
     assert_eq!(age::decay(10), 706_358);
+    assert_eq!(age::decay(9), 658_916);
+    assert_eq!(age::decay(8), 614_660);
+    assert_eq!(age::decay(7), 573_376);
+    assert_eq!(age::decay(6), 534_865);
+    assert_eq!(age::decay(5), 498_941);
+    assert_eq!(age::decay(4), 465_430);
 }
 
 #[test]

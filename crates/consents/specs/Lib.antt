@@ -1,0 +1,2 @@
+-- What the functions over a consent's entries promise.
+pub mod Entries

@@ -1,0 +1,2 @@
+-- What the functions of the reactor over the terms of the consent promise.
+pub mod Seasons

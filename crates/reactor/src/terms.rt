@@ -1,0 +1,214 @@
+// The design and the terms of the consent. What does not depend on the fraction is reckoned once for a plant.
+use crate::Season;
+use crate::Seasons;
+use rules::Plant;
+use rules::Process;
+use rules::Reactor;
+use rules::Term;
+use rules::TermExplained;
+ghost use mathlib.Core.Path.{_≡_};
+ghost use mathlib.Core.Bool.{_||_};
+ghost use Prim.Native.Nat.{_*_, _≤_, _<_};
+ghost use lib.Dec.{T, leb};
+ghost use Rattle.rules.specs.Rounding.{down};
+ghost use Rattle.rules.specs.Limits.{leastTemperature, mostTermAge, mostAge, mostFraction, mostTemperature, mostCapacity, mostRemoves, mostNitrogen};
+ghost use Rattle.rules.specs.Ranges.{Between, TermTemperature, PlantRanges, ReactorBounds};
+ghost use Rattle.rules.specs.Consent.{termValid};
+ghost use Rattle.rules.specs.TermSteps.{aerobicShare, termCapacity};
+ghost use Rattle.reactor.specs.Seasons.{seasonWith, seasonAt, SeasonBounds, SeasonsBounds, SeasonsAt, seasonNitrifies, seasonFraction, seasonRemoves, seasonCovered, seasonExplained, entryExplained, everySeason};
+
+// A temperature and a target with the plant's SF.
+fn season_with(factor: u64, temperature: u64, target: u64) -> Season
+    requires { ⌜ Between 145 180 factor × TermTemperature temperature ⌝ }
+    ensures { λ r. ⌜ (r ≡ seasonWith factor temperature target) × SeasonBounds r × (leastTemperature ≤ temperature → Between 1 10_000 (r .«aerobic_age»)) ⌝ }
+{
+    let aerobic_age = crate::age::aerobic_age(factor, temperature);
+    let decay = crate::age::decay(temperature);
+    Season {
+        temperature,
+        target,
+        aerobic_age,
+        decay,
+    }
+}
+
+// Entry i of a consent with so many terms, with the plant's SF; zeros past the count.
+fn season_at(count: u32, i: u32, factor: u64, term: Term) -> Season
+    requires { ⌜ Between 145 180 factor × (i < count → T (termValid term)) ⌝ }
+    ensures { λ r. ⌜ (r ≡ seasonAt count i factor term) × SeasonBounds r ⌝ }
+{
+    if count <= i {
+        return Season {
+            temperature: 0,
+            target: 0,
+            aerobic_age: 0,
+            decay: 0,
+        };
+    }
+    season_with(factor, term.temperature as u64, term.nitrate_target as u64)
+}
+
+// The seasons of a plant.
+pub fn seasons_of(plant: Plant) -> Seasons
+    requires { ⌜ PlantRanges plant ⌝ }
+    ensures { λ r. ⌜ SeasonsAt plant r ⌝ }
+{
+    let temperature = plant.design_temperature as u64;
+    let target = plant.nitrate_target as u64;
+    let consent = plant.consent;
+    let factor = crate::age::safety_factor(plant.load as u64);
+    let design = season_with(factor, temperature, target);
+    let count = consent.count;
+    let first = consent.first;
+    let second = consent.second;
+    let third = consent.third;
+    let fourth = consent.fourth;
+    let first = season_at(count, 0, factor, first);
+    let second = season_at(count, 1, factor, second);
+    let third = season_at(count, 2, factor, third);
+    let fourth = season_at(count, 3, factor, fourth);
+    Seasons {
+        design,
+        count,
+        first,
+        second,
+        third,
+        fourth,
+    }
+}
+
+// up(1000a / t): what nitrification needs of the sludge age, thousandths.
+fn aerobic_share(aerobic: u64, age: u64) -> u64
+    requires { ⌜ (aerobic ≤ mostTermAge) × Between 1 mostAge age ⌝ }
+    ensures { λ r. ⌜ r ≡ aerobicShare aerobic age ⌝ }
+{
+    rounding::round_up(1000 * aerobic, age)
+}
+
+// The fraction left for denitrification: the smaller of f and 1000 − up(1000a / t).
+fn season_fraction(fraction: u64, age: u64, season: Season) -> u64
+    requires { ⌜ (fraction ≤ mostFraction) × Between 1 mostAge age × SeasonBounds season ⌝ }
+    ensures { λ r. ⌜ (r ≡ seasonFraction fraction age season) × (r ≤ mostFraction) ⌝ }
+{
+    let left = rounding::less(1000, aerobic_share(season.aerobic_age, age));
+    if left < fraction { left } else { fraction }
+}
+
+// K in a season: 0 at a fraction under 200.
+fn season_capacity(process: Process, fraction: u64, temperature: u64, corrected: u64) -> u64
+    requires { ⌜ (fraction ≤ mostFraction) × (temperature ≤ mostTemperature) × (corrected ≤ 28_400) ⌝ }
+    ensures { λ r. ⌜ (r ≡ termCapacity process fraction temperature corrected) × (r ≤ mostCapacity) ⌝ }
+{
+    if fraction < 200 {
+        return 0;
+    }
+    crate::nitrate::capacity(process, fraction, temperature, corrected)
+}
+
+// K × C in a season, with U of the design's t at the season's temperature.
+fn season_removes(process: Process, bod: u64, reactor: Reactor, season: Season) -> u64
+    requires { ⌜ (bod ≤ 2_000_000) × ReactorBounds reactor × SeasonBounds season ⌝ }
+    ensures { λ r. ⌜ (r ≡ seasonRemoves process bod reactor season) × (r ≤ mostRemoves) ⌝ }
+{
+    let age = reactor.age;
+    let fraction = season_fraction(reactor.fraction, age, season);
+    let corrected = crate::age::corrected_by(age, season.decay);
+    season_capacity(process, fraction, season.temperature, corrected) * bod
+}
+
+// Nitrification is kept in entry i, or there is no such term.
+fn nitrified_in(count: u32, i: u32, age: u64, season: Season) -> bool
+    requires { ⌜ Between 1 mostAge age × SeasonBounds season ⌝ }
+    ensures { λ r. ⌜ r ≡ (leb count i || seasonNitrifies age season) ⌝ }
+{
+    if count <= i {
+        return true;
+    }
+    aerobic_share(season.aerobic_age, age) <= 1000
+}
+
+// The nitrate is covered in entry i, or there is no such term.
+fn covered_in(
+    count: u32,
+    i: u32,
+    process: Process,
+    bod: u64,
+    reactor: Reactor,
+    season: Season,
+) -> bool
+    requires { ⌜ (bod ≤ 2_000_000) × ReactorBounds reactor × SeasonBounds season ⌝ }
+    ensures { λ r. ⌜ r ≡ (leb count i || seasonCovered process bod reactor season) ⌝ }
+{
+    if count <= i {
+        return true;
+    }
+    let removes = season_removes(process, bod, reactor, season);
+    let denitrified = crate::nitrate::denitrified(reactor.nitrified, season.target);
+    crate::nitrate::covered(removes, reactor.removed_by_dose, denitrified)
+}
+
+// Nitrification is kept in every term.
+pub(crate) fn every_nitrified(age: u64, seasons: Seasons) -> bool
+    requires { ⌜ Between 1 mostAge age × SeasonsBounds seasons ⌝ }
+    ensures { λ r. ⌜ r ≡ everySeason (seasonNitrifies age) seasons ⌝ }
+{
+    let count = seasons.count;
+    let first = seasons.first;
+    let second = seasons.second;
+    let third = seasons.third;
+    let fourth = seasons.fourth;
+    nitrified_in(count, 0, age, first)
+        & (nitrified_in(count, 1, age, second)
+            & (nitrified_in(count, 2, age, third) & nitrified_in(count, 3, age, fourth)))
+}
+
+// The nitrate is covered in every term.
+pub(crate) fn every_covered(process: Process, bod: u64, reactor: Reactor, seasons: Seasons) -> bool
+    requires { ⌜ (bod ≤ 2_000_000) × ReactorBounds reactor × SeasonsBounds seasons ⌝ }
+    ensures { λ r. ⌜ r ≡ everySeason (seasonCovered process bod reactor) seasons ⌝ }
+{
+    let count = seasons.count;
+    let first = seasons.first;
+    let second = seasons.second;
+    let third = seasons.third;
+    let fourth = seasons.fourth;
+    covered_in(count, 0, process, bod, reactor, first)
+        & (covered_in(count, 1, process, bod, reactor, second)
+            & (covered_in(count, 2, process, bod, reactor, third)
+                & covered_in(count, 3, process, bod, reactor, fourth)))
+}
+
+// The figures that explain a reactor in entry i; zeros where there is no such term.
+pub fn explained_in(
+    count: u32,
+    i: u32,
+    process: Process,
+    bod: u64,
+    reactor: Reactor,
+    season: Season,
+) -> TermExplained
+    requires { ⌜ (bod ≤ 2_000_000) × ReactorBounds reactor × SeasonBounds season ⌝ }
+    ensures { λ r. ⌜ r ≡ entryExplained count i process bod reactor season ⌝ }
+{
+    if count <= i {
+        return TermExplained {
+            aerobic_share: 0,
+            fraction: 0,
+            denitrified: 0,
+            removed_by_bod: 0,
+            removable: 0,
+        };
+    }
+    let age = reactor.age;
+    let share = aerobic_share(season.aerobic_age, age);
+    let fraction = season_fraction(reactor.fraction, age, season);
+    let denitrified = crate::nitrate::denitrified(reactor.nitrified, season.target);
+    let removed_by_bod = season_removes(process, bod, reactor, season) / 1000;
+    TermExplained {
+        aerobic_share: share,
+        fraction,
+        denitrified,
+        removed_by_bod,
+        removable: removed_by_bod + reactor.removed_by_dose,
+    }
+}
