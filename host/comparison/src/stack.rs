@@ -1,8 +1,9 @@
 //! How much stack a call takes: it runs on memory filled with a pattern, and
-//! the part that was overwritten is measured.
+//! the part that was overwritten is measured. And calls further down the stack.
 
 use library::Call;
 use std::arch::asm;
+use std::hint::black_box;
 
 const STACK: usize = 1 << 20;
 const FILLED: u8 = 0xa5;
@@ -45,4 +46,16 @@ pub fn stack_of(call: Call, request: &[u8], page: &mut [u8]) -> (u32, usize) {
     let usable = top as usize - memory.as_ptr() as usize;
     let untouched = memory.iter().take_while(|byte| **byte == FILLED).count();
     (number, usable.saturating_sub(untouched))
+}
+
+/// Calls with the stack some frames of at least 256 bytes further down.
+#[inline(never)]
+pub fn further_down<T>(frames: usize, call: &mut dyn FnMut() -> T) -> T {
+    let frame = black_box([0_u8; 256]);
+    let result = match frames {
+        0 => call(),
+        _ => further_down(frames - 1, call),
+    };
+    black_box(frame);
+    result
 }

@@ -8,7 +8,7 @@ use cases::plants;
 use cases::random::Random;
 use cases::request::*;
 use comparison::logs;
-use comparison::stack::stack_of;
+use comparison::stack::{further_down, stack_of};
 use comparison::targets;
 use library::number::{NO_DESIGN, SHEET};
 use library::PAGE_LENGTH as PAGE;
@@ -18,8 +18,11 @@ use std::time::{Duration, Instant};
 const ROUNDS: usize = 5;
 /// Least time of a measurement.
 const LEAST_TIME: Duration = Duration::from_millis(300);
-/// Calls of which the least time is taken.
-const ALTERNATIONS: usize = 1_000;
+/// Calls of which the least time is taken, at each place on the stack.
+const ALTERNATIONS: usize = 100;
+/// Places on the stack, over more than a page of memory: a call that lies badly
+/// in its page takes up to half as long again.
+const PLACES: usize = 16;
 
 fn chosen(request: &Request) -> u32 {
     library::choose(&request.choose_bytes(), &mut [0; PAGE]).0
@@ -94,16 +97,19 @@ fn median(mut rates: Vec<f64>) -> f64 {
     rates[rates.len() / 2]
 }
 
-/// Alternating rounds of library and reference, and their median rates.
+/// Alternating rounds of library and reference, each at another place on the
+/// stack, and their median rates.
 fn rates(
     requests: &[Vec<u8>],
     by_library: impl Fn(&[u8]) -> u32,
     by_reference: impl Fn(&[u8]) -> u32,
 ) -> (f64, f64) {
     let (mut first, mut second) = (Vec::new(), Vec::new());
-    for _ in 0..ROUNDS {
-        first.push(rate(requests, &by_library));
-        second.push(rate(requests, &by_reference));
+    for round in 0..ROUNDS {
+        further_down(round, &mut || {
+            first.push(rate(requests, &by_library));
+            second.push(rate(requests, &by_reference));
+        });
     }
     (median(first), median(second))
 }
@@ -160,12 +166,16 @@ fn least_times(calls: [Timed; 2]) -> [Duration; 2] {
     least
 }
 
-/// The time of the second of all pairs of calls in hundredths of the first.
+/// The time of the second of all pairs of calls in hundredths of the first,
+/// over all places on the stack.
 fn share_of_time<'a>(pairs: impl Iterator<Item = [Timed<'a>; 2]>) -> f64 {
     let mut all = [Duration::ZERO; 2];
     for pair in pairs {
-        for (all, time) in all.iter_mut().zip(least_times(pair)) {
-            *all += time;
+        for place in 0..PLACES {
+            let times = further_down(place, &mut || least_times(pair));
+            for (all, time) in all.iter_mut().zip(times) {
+                *all += time;
+            }
         }
     }
     100.0 * all[1].as_secs_f64() / all[0].as_secs_f64()
