@@ -2,7 +2,8 @@
 -- version, a byte too many and a kind's unknown code are malformed, in this order. Assumes nothing.
 use mathlib.Core.Path.{_≡_, refl}
 use mathlib.Core.List.{List, [], _∷_, _++_}
-use Prim.Native.Nat.{ℕ}
+use Prim.Native.Nat.{ℕ, _+_}
+use mathlib.Core.Bool.{true}
 use lib.Ieee.{ofBits, round}
 use lib.ListN.{set, take, replicate}
 use Rattle.rules.specs.Consent.{noTerm}
@@ -12,9 +13,9 @@ use Rattle.rules.specs.WithoutTerms.{withConsent}
 use Rattle.rules.specs.declared.Consent.{Consent}
 use Rattle.request.specs.Kinds.{processOf, precipitantOf, tankFlowOf, removalOf, primarySettlingOf, readingOf}
 use Rattle.words.specs.Bytes.{word, wordsFrom}
-use Rattle.request.specs.Layout.{decodeWords, decode, askedCandidate}
+use Rattle.request.specs.Layout.{kindsKnown, decodeWords, decode, askedCandidate}
 use Rattle.request.specs.ConsentLayout.{decodeInquiry}
-use Rattle.request.specs.Frames.{candidateWords, frameOf}
+use Rattle.request.specs.Frames.{plantWords, candidateWords, frameOf}
 use Rattle.request.specs.declared.Fault.{Fault}
 use Rattle.request.specs.declared.Decoded.{Decoded}
 use Rattle.request.specs.declared.DecodedInquiry.{DecodedInquiry}
@@ -99,8 +100,8 @@ pub asked :
 unfolding consentA frameOf decodeInquiry word
 asked = refl
 
--- malformed in more than one way, the first test decides
--- a request of version 2 as it was, with 25 words less, whatever its kinds; and no first word at all
+-- malformed in more than one way, the first test decides: a request of version 2 as it was, with 25 words less, whatever its
+-- kinds; a byte too many, whatever its kinds; and no first word at all
 pub earlier-version : decode (take 120 (set (set dataA 0 2) 56 5)) 0 ≡ Decoded.Malformed Fault.Version
 unfolding plantA dataA frameOf decode word
 earlier-version = refl
@@ -113,11 +114,26 @@ pub too-short : decode (1 ∷ 0 ∷ 0 ∷ []) 0 ≡ Decoded.Malformed Fault.Leng
 unfolding frameOf decode
 too-short = refl
 
-pub unknown-kinds :
-    (decode (set requestA 56 5) candidateWords ≡ Decoded.Malformed Fault.Kind)
-    × (decode (set requestA 108 3) candidateWords ≡ Decoded.Malformed Fault.Kind)
+-- a kind, by its byte of the request: its last code is known, and the one after it is malformed
+abbrev KnownTo : ℕ → ℕ → Type 0
+KnownTo byte last =
+    (kindsKnown (wordsFrom (set requestA byte last) 0 plantWords) ≡ true)
+    × (decode (set requestA byte (last + 1)) candidateWords ≡ Decoded.Malformed Fault.Kind)
+
+-- all ten kinds: the process, the precipitant, the tank flow, the sludge removal, the primary settling, and the five readings
+pub known-kinds :
+    KnownTo 56 4
+    × KnownTo 60 1
+    × KnownTo 64 1
+    × KnownTo 68 2
+    × KnownTo 72 2
+    × KnownTo 76 2
+    × KnownTo 84 2
+    × KnownTo 92 2
+    × KnownTo 100 2
+    × KnownTo 108 2
 unfolding plantA dataA requestA frameOf decode decodeWords wordsFrom word
-unknown-kinds = (refl, refl)
+known-kinds = ((refl, refl), (refl, refl), (refl, refl), (refl, refl), (refl, refl), (refl, refl), (refl, refl), (refl, refl), (refl, refl), (refl, refl))
 
 -- each call takes its own length alone
 pub own-words :

@@ -22,13 +22,13 @@ abbrev pub termWords : ℕ
 termWords = 6
 
 abbrev pub consentWords : ℕ
-consentWords = 25
+consentWords = 1 + 4 * termWords
 
 abbrev pub dataWords : ℕ
-dataWords = 55
+dataWords = plantWords + consentWords
 
 abbrev pub inquiryWords : ℕ
-inquiryWords = 28
+inquiryWords = 1 + (consentWords + 2)
 
 abbrev pub candidateWords : ℕ
 candidateWords = 3
