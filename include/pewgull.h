@@ -28,7 +28,8 @@
  *   3      12..15     wet weather flow, 1..50000 m3/h
  *   4      16..19     design temperature, 10..20 degrees Celsius
  *   5      20..23     aeration temperature, 10..20 degrees Celsius
- *   6      24..27     sludge volume index, 50..200 l/kg
+ *   6      24..27     sludge volume index, 50..180 l/kg; 181..200 gets
+ *                     17
  *   7      28..31     nitrate target, 1000..50000 mg/m3
  *   8      32..35     phosphorus target, 0..100000 mg/m3
  *   9      36..39     carbon peak factor, 100..300 hundredths
@@ -141,15 +142,16 @@ extern "C" {
 #define PEWGULL_TERMS 14         /* too many terms, or a term or the date asked for not valid */
 #define PEWGULL_NITRIFICATION 15 /* nitrification lost in a term */
 #define PEWGULL_TERM_NITRATE 16  /* the nitrate is not covered in a term */
+#define PEWGULL_BULKING 17       /* bulking sludge: a sludge volume index of 181..200 l/kg */
 #define PEWGULL_BAD_LENGTH 101   /* request of another length: nothing written */
 #define PEWGULL_BAD_VERSION 102  /* request of another version, which is tested first: nothing written */
 #define PEWGULL_BAD_KIND 103     /* an unknown kind in a request: nothing written */
 
 /*
  * Examines the candidate of a request of PEWGULL_EXAMINE_LENGTH bytes.
- * Gives 0 and writes the sheet's listing. Gives the first that is due of 1 to
- * 4, 14, 6, 7, 15, 16 and 8 to 10, in this order, and writes "refused ", the
- * number and a newline. Gives 11 or 101 to 103, writes nothing on the page
+ * Gives 0 and writes the sheet's listing. Gives the first that is due of 1,
+ * 17, 2 to 4, 14, 6, 7, 15, 16 and 8 to 10, in this order, and writes
+ * "refused ", the number and a newline. Gives 11 or 101 to 103, writes nothing on the page
  * and stores 0 in *written. The listing has no terminating zero byte: its
  * length is *written.
  */
@@ -161,7 +163,7 @@ uint32_t pewgull_examine(const uint8_t *request, size_t request_length,
  * Chooses for a request of PEWGULL_CHOOSE_LENGTH bytes the permitted
  * candidate of least total volume; of several, the one of least fraction,
  * then return ratio, then thickening time. Gives 0 and writes the sheet's
- * listing, or gives 1 to 4, 14 or 5 and writes the refusal; the rest as above.
+ * listing, or gives 1, 17, 2 to 4, 14 or 5 and writes the refusal; the rest as above.
  */
 uint32_t pewgull_choose(const uint8_t *request, size_t request_length,
                         uint8_t *page, size_t page_length,
@@ -203,7 +205,7 @@ uint32_t pewgull_choose(const uint8_t *request, size_t request_length,
  *   104..111 nitrate the tank can remove there,     at least the third
  *            with what the dose removes, mg/m3      (16)
  *
- * Gives 1 to 4, 14 or 6 and writes 232 bytes of zeros. Gives 11 for a page of
+ * Gives 1, 17, 2 to 4, 14 or 6 and writes 232 bytes of zeros. Gives 11 for a page of
  * fewer than 232 bytes, or 101 to 103, and writes nothing.
  */
 uint32_t pewgull_explain(const uint8_t *request, size_t request_length,
@@ -230,7 +232,7 @@ uint32_t pewgull_explain(const uint8_t *request, size_t request_length,
  * horizontal and 128,226 in vertical flow. For such a request pewgull_choose
  * gives 5 exactly where the first count is 0.
  *
- * Gives 1 to 4 or 14 and writes 256 bytes of zeros. Gives 11 for a page of
+ * Gives 1, 17, 2 to 4 or 14 and writes 256 bytes of zeros. Gives 11 for a page of
  * fewer than 256 bytes, or 101 to 103, and writes nothing.
  */
 uint32_t pewgull_census(const uint8_t *request, size_t request_length,

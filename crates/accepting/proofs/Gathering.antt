@@ -2,9 +2,11 @@
 use mathlib.Core.Path.{_≡_, refl, ap, sym, _∙_}
 use mathlib.Core.Bool.{Bool, true, false, cond, not}
 use mathlib.Core.List.{List, [], _∷_, _++_}
-use Prim.Native.Nat.{ℕ, _≤_, zero-le}
+use Prim.Native.Nat.{ℕ, _≤_, _<_, zero-le}
+use borrow.Author.Tests.{le-leb}
 use lib.Ieee.Fits.{and-r}
 use denote.Floats.{passes}
+use Rattle.rules.specs.Limits.{mostIndex}
 use Rattle.rules.specs.Rules.{Rule, rule, verdict, after}
 use Rattle.rules.specs.PlantData.{plantInRange}
 use Rattle.rules.specs.LabReadings.{resultInRange, headsInRange, readingNoNumber, readingInRange, readingValue, codRatioBroken}
@@ -21,6 +23,7 @@ use Rattle.rules.specs.declared.Verdict.{Verdict}
 use Rattle.rules.specs.declared.Acceptance.{Acceptance}
 use Rattle.rules.proofs.AcceptedData.{result-most}
 use Rattle.rules.proofs.RuleLists.{verdict-append}
+use Rattle.rules.proofs.BulkingSludge.{bulking-due}
 use Rattle.accepting.specs.Conversion.{valueOf, convert, gather, acceptReadings, thenTerms}
 use Rattle.accepting.specs.declared.Converted.{Converted}
 
@@ -129,10 +132,14 @@ module _ (p : Plant) (r : Readings) where
   unfolding accept acceptBy dataRules
   out-of-range e = rw e
 
-  -- 1 is not due: the readings decide, and then the terms
-  pub in-range : plantInRange p ≡ true → thenTerms (acceptReadings (p .flow) (p .«primary_settling») r) (consentValid (p .consent)) ≡ accept p r
+  -- 1 is not due, and 17 is
+  pub index-too-high : plantInRange p ≡ true → mostIndex < p .«sludge_volume_index» → Acceptance.Refused Refusal.Bulking ≡ accept p r
+  index-too-high e h = sym (bulking-due p r .1 (passes _ e, h))
+
+  -- neither is due: the readings decide, and then the terms
+  pub in-range : plantInRange p ≡ true → p .«sludge_volume_index» ≤ mostIndex → thenTerms (acceptReadings (p .flow) (p .«primary_settling») r) (consentValid (p .consent)) ≡ accept p r
   unfolding accept dataRules
-  in-range e =
+  in-range e h =
       ap (λ (o : Acceptance). thenTerms o (consentValid (p .consent))) gathered
       ∙ (then-by-rules (verdict (readingsRules p r)) (valuesOf p r) (consentValid (p .consent))
-      ∙ rw e (ap (λ (v : Verdict). acceptBy v (valuesOf p r)) (sym (verdict-append (readingsRules p r) (termsRule p ∷ [])))))
+      ∙ rw (e, le-leb (p .«sludge_volume_index») mostIndex h) (ap (λ (v : Verdict). acceptBy v (valuesOf p r)) (sym (verdict-append (readingsRules p r) (termsRule p ∷ [])))))

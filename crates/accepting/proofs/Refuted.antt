@@ -1,19 +1,28 @@
--- Wrong ways of reading a lab result, each beside the right one on data where the two part, by computation. Assumes nothing.
+-- Wrong ways of reading a lab result, and of accepting plant data and readings, each beside the right one on data where the two
+-- part, by computation. Assumes nothing.
 use mathlib.Core.Path.{_≡_, refl}
 use mathlib.Core.Bool.{true, false, cond, _||_}
+use mathlib.Core.List.{List, [], _∷_, _++_}
 use Prim.Native.Nat.{ℕ, _+_, _*_, _/_}
 use lib.Dec.{leb}
 use lib.Ieee
 use lib.Ieee.{Float, nan, inf, fin, binary32, ofBits, toBits, lt, le, mul, round}
 use lib.Ieee.Nearest.{closest}
+use Rattle.rules.specs.Rules.{Rule, rule, verdict}
 use Rattle.rules.specs.PlantData.{figuresWithoutDose, plantFigures, plantInRange}
 use Rattle.rules.specs.LabReadings
 use Rattle.rules.specs.LabReadings.{noNumber, thousandths, readingNoNumber, codRatioBroken}
 use Rattle.rules.specs.Accepting
-use Rattle.rules.specs.Accepting.{accept}
+use Rattle.rules.specs.Consent.{consentValid}
+use Rattle.rules.specs.Accepting.{valuesOf, readingsRules, bulkingRule, termsRule, acceptBy, accept}
+use Rattle.rules.specs.Answers.{acceptanceNumber}
+use Rattle.rules.specs.Bulking.{withIndex}
 use Rattle.rules.specs.Cases
-use Rattle.rules.specs.Cases.{caseA, f32}
+use Rattle.rules.specs.Cases.{variant, caseA, f32}
 use Rattle.rules.specs.declared.Plant.{Plant}
+use Rattle.rules.specs.declared.Process.{Process}
+use Rattle.rules.specs.declared.TankFlow.{TankFlow}
+use Rattle.rules.specs.declared.Removal.{Removal}
 use Rattle.rules.specs.declared.Reading.{Reading}
 use Rattle.rules.specs.declared.Readings.{Readings}
 use Rattle.rules.specs.declared.Parameter.{Parameter}
@@ -103,7 +112,8 @@ pub record Order : Type 0 where
   pub ratio-last : accept caseA highNitrogen ≡ Acceptance.Refused Refusal.ReadingRange
   pub ratio-before-nitrogen : ratioEarly caseA highNitrogen ≡ Acceptance.Refused Refusal.CodRatio
 
-pub order : Order
+-- what acceptance on concrete data computes by
+computing : Unit {0}
 unfolding
     round
     f32
@@ -116,13 +126,82 @@ unfolding
     LabReadings.readingInRange
     convert
     codRatioBroken
-    Accepting.valuesOf
+    valuesOf
     Accepting.dataRules
-    Accepting.acceptBy
+    acceptBy
     accept
+    acceptanceNumber
+    consentValid
     figuresWithoutDose
     plantFigures
     plantInRange
-    Cases.variant
+    withIndex
+    variant
     caseA
+computing = tt
+
+pub order : Order
+unfolding computing
 order = record { in-turn = refl; all-twos-first = refl; ratio-last = refl; ratio-before-nitrogen = refl }
+
+-- ---- bulking sludge
+
+-- acceptance by other rules
+abbrev numberBy : List Rule → Plant → Readings → ℕ
+numberBy rules p r = acceptanceNumber (acceptBy (verdict rules) (valuesOf p r))
+
+-- 1, and the rules after 17
+abbrev figures : Plant → Rule
+figures p = rule Refusal.PlantData (plantInRange p)
+
+abbrev rest : Plant → Readings → List Rule
+rest p r = readingsRules p r ++ (termsRule p ∷ [])
+
+-- another largest index; 17 after the readings; 17 before 1
+abbrev indexUpTo : ℕ → Plant → Readings → ℕ
+indexUpTo most p r = numberBy (figures p ∷ rule Refusal.Bulking (leb (p .«sludge_volume_index») most) ∷ rest p r) p r
+
+abbrev bulkingAfterReadings : Plant → Readings → ℕ
+bulkingAfterReadings p r = numberBy (figures p ∷ (readingsRules p r ++ (bulkingRule p ∷ termsRule p ∷ []))) p r
+
+abbrev bulkingBeforeFigures : Plant → Readings → ℕ
+bulkingBeforeFigures p r = numberBy (bulkingRule p ∷ figures p ∷ rest p r) p r
+
+abbrev accepted : Plant → Readings → ℕ
+accepted p r = acceptanceNumber (accept p r)
+
+abbrev indexed : ℕ → Plant
+indexed index = withIndex index caseA
+
+-- the same without a daily flow
+abbrev noFlow : ℕ → Plant
+noFlow index = withIndex index (variant 0 10_000 1_000 5_000 Process.PreAnoxic TankFlow.Horizontal Removal.Scraper)
+
+abbrev inRange : Readings
+inRange = readingsOf (f32 200 1) (f32 400 1) (f32 46 1)
+
+abbrev noNumberBod : Readings
+noNumberBod = readingsOf nan (f32 400 1) (f32 46 1)
+
+-- each with the right answer and then the wrong one: 180 refused; 200 accepted; 17 after a reading's 2 and 3; 17 before 1
+pub record WrongIndex : Type 0 where
+  pub refused-at-180 : (accepted (indexed 180) inRange ≡ 0) × (indexUpTo 179 (indexed 180) inRange ≡ 17)
+  pub accepted-at-181 : (accepted (indexed 181) inRange ≡ 17) × (indexUpTo 181 (indexed 181) inRange ≡ 0)
+  pub accepted-at-200 : (accepted (indexed 200) inRange ≡ 17) × (indexUpTo 200 (indexed 200) inRange ≡ 0)
+  pub after-2 : (accepted (indexed 181) noNumberBod ≡ 17) × (bulkingAfterReadings (indexed 181) noNumberBod ≡ 2)
+  pub after-3 : (accepted (indexed 181) lowBod ≡ 17) × (bulkingAfterReadings (indexed 181) lowBod ≡ 3)
+  pub before-1 : (accepted (indexed 201) inRange ≡ 1) × (bulkingBeforeFigures (indexed 201) inRange ≡ 17)
+  pub before-1-of-another : (accepted (noFlow 181) inRange ≡ 1) × (bulkingBeforeFigures (noFlow 181) inRange ≡ 17)
+
+pub wrong-index : WrongIndex
+unfolding computing
+wrong-index =
+    record {
+      refused-at-180 = (refl, refl);
+      accepted-at-181 = (refl, refl);
+      accepted-at-200 = (refl, refl);
+      after-2 = (refl, refl);
+      after-3 = (refl, refl);
+      before-1 = (refl, refl);
+      before-1-of-another = (refl, refl);
+    }

@@ -1,4 +1,5 @@
-// Document 01, "Plant data and site" and "Lab readings": plant data and readings accepted, or refused with 1 to 4 or 14.
+// Document 01, "Plant data and site" and "Lab readings": plant data and readings accepted, or refused with 1, 17, 2
+// to 4 or 14.
 use rules::Acceptance;
 use rules::Concentrations;
 use rules::Parameter;
@@ -293,12 +294,15 @@ fn then_terms(answer: Acceptance, valid: bool) -> Acceptance
     }
 }
 
-// Plant data and readings: 1; then 2 and 3 for each reading in turn; then 4; then 14; else accepted.
+// Plant data and readings: 1; then 17; then 2 and 3 for each reading in turn; then 4; then 14; else accepted.
 pub fn accept(plant: Plant, readings: Readings) -> Acceptance
     ensures { λ r. ⌜ r ≡ accept plant readings ⌝ }
 {
     if !plant_in_range(plant) {
         return Acceptance::Refused(Refusal::PlantData);
+    }
+    if rules::MOST_INDEX < plant.sludge_volume_index {
+        return Acceptance::Refused(Refusal::Bulking);
     }
     let settling = plant.primary_settling;
     let consent = plant.consent;

@@ -12,7 +12,7 @@ ghost use mathlib.Core.Path.{_≡_};
 ghost use Prim.Native.Nat.{_≤_, _<_};
 ghost use Rattle.rules.specs.SettlingSteps.{thickeningRoot, bottomSludge};
 ghost use Rattle.rules.specs.Limits.{mostFraction, mostRatio, mostTime, mostMass, mostReactorSolids, mostSettlingVolume};
-ghost use Rattle.rules.specs.Ranges.{Between, GridFraction, GridRatio, GridTime, PlantRanges, ConcentrationRanges};
+ghost use Rattle.rules.specs.Ranges.{Between, Index, GridFraction, GridRatio, GridTime, PlantRanges, ConcentrationRanges};
 ghost use Rattle.rules.specs.Choosing.{grid, ChosenAmong, Chosen};
 ghost use Rattle.rules.specs.TwoColumns.{TwoColumns};
 ghost use Rattle.reactor.specs.Seasons.{SeasonsAt};
@@ -76,7 +76,7 @@ fn tank_index(return_ratio: u32, thickening: u32) -> usize
 
 // The bottom sludge of each thickening time: the only roots that a choice finds.
 fn bottoms(index: u32) -> [u64; 6]
-    requires { ⌜ Between 50 200 index ⌝ }
+    requires { ⌜ Index index ⌝ }
     ensures { λ r. ⌜ Settled index r ⌝ }
 {
     let mut bottoms = [0u64; 6];

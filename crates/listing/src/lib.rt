@@ -33,6 +33,7 @@ pub fn refusal_number(refusal: Refusal) -> u64
         Refusal::Terms => 14,
         Refusal::Nitrification => 15,
         Refusal::TermNitrate => 16,
+        Refusal::Bulking => 17,
     }
 }
 

@@ -30,6 +30,8 @@ pub use Rattle.explaining.proofs.Refuted.{always-off-grid, one-candidate-explai
 pub use Rattle.listing.proofs.Refuted.{not-refused, not-untouched, not-past-the-end, not-in-part}
 -- a reading scaled in floating point, and other wrong conversions
 pub use Rattle.accepting.proofs.Refuted.{float-product, tie-upwards, rounded-before-halving, minus-zero, nan-let-through}
+-- 17 at an index of 180, or not at 181 or 200; 17 after the 2 or 3 of a reading, or before 1: fields of one record
+pub use Rattle.accepting.proofs.Refuted.{WrongIndex, wrong-index}
 -- a census with a rule counted where an earlier one is broken, with the tank's rules before the fraction's, without the last
 -- fraction, of vertical flow with 46 return ratios, or of refused data
 pub use Rattle.census.proofs.Refuted.{earlier-rule-ignored, tank-before-fraction, last-fraction-left-out, vertical-with-46-ratios, refused-data-counted}

@@ -1,5 +1,5 @@
--- Plant data and readings are accepted exactly when none of 1 to 4 and 14 is broken, with the readings' own values, and refused
--- with n exactly when n is the first one broken. Accepted data are in their ranges. Assumes nothing.
+-- Plant data and readings are accepted exactly when none of 1, 17, 2 to 4 and 14 is broken, with the readings' own values, and
+-- refused with n exactly when n is the first one broken. Accepted data are in their ranges. Assumes nothing.
 use mathlib.Core.Logic.{_↔_}
 use mathlib.Core.Path.{_≡_, refl, sym, ap}
 use mathlib.Core.Bool.{Bool, not}
@@ -12,7 +12,7 @@ use Rattle.rules.specs.Rules.{Rule, rule, allKept, verdict, FirstBroken}
 use Rattle.rules.specs.PlantData.{plantInRange}
 use Rattle.rules.specs.LabReadings.{resultInRange, headsInRange, readingNoNumber, readingValue, readingInRange, codRatioBroken}
 use Rattle.rules.specs.Consent.{consentValid}
-use Rattle.rules.specs.Accepting.{valuesOf, readingRules, readingsRules, termsRule, dataRules, acceptBy, accept}
+use Rattle.rules.specs.Accepting.{valuesOf, readingRules, readingsRules, bulkingRule, termsRule, rulesAfterFigures, dataRules, acceptBy, accept}
 use Rattle.rules.specs.Ranges.{Between, PlantRanges, ConcentrationRanges}
 use Rattle.rules.specs.declared.Plant.{Plant}
 use Rattle.rules.specs.declared.PrimarySettling.{PrimarySettling}
@@ -42,7 +42,7 @@ unfolding acceptBy
 by-broken Verdict.Kept x n e = absurd (refused-no n x (sym e))
 by-broken (Verdict.Broken m) x n e = cc
 
--- what is accepted breaks none of 1 to 4 and 14, and the concentrations are the readings' values
+-- what is accepted breaks none of them, and the concentrations are the readings' values
 pub accepted-none-due : (p : Plant) (r : Readings) (x : Concentrations) → accept p r ≡ Acceptance.Accepted x → T (allKept (dataRules p r)) × (valuesOf p r ≡ x)
 unfolding accept
 accepted-none-due p r x e =
@@ -104,8 +104,8 @@ kept-between q s k r t =
 pub none-due-ranges : (p : Plant) (r : Readings) → T (allKept (dataRules p r)) → PlantRanges p × ConcentrationRanges (valuesOf p r)
 unfolding dataRules valuesOf
 none-due-ranges p r t =
-    let later = and-r (plantInRange p) (allKept (readingsRules p r ++ (termsRule p ∷ []))) t in
-    let both = kept-append (readingsRules p r) (termsRule p ∷ []) .0 later in
+    let later = and-r (plantInRange p) (allKept (rulesAfterFigures p r)) t in
+    let both = kept-append (readingsRules p r) (termsRule p ∷ []) .0 (and-r (bulkingRule p .kept) _ later) in
     let all = both .0 in
     let bod = kept-append (of Parameter.Bod (r .bod)) (from-cod) .0 all in
     let cod = kept-append (of Parameter.Cod (r .cod)) (from-solids) .0 (bod .1) in
@@ -113,7 +113,7 @@ none-due-ranges p r t =
     let nitrogen = kept-append (of Parameter.Nitrogen (r .nitrogen)) (from-phosphorus) .0 (solids .1) in
     let phosphorus = kept-append (of Parameter.Phosphorus (r .phosphorus)) (ratio) .0 (nitrogen .1) in (
       plant-ranges p .0
-          (and-l (plantInRange p) (allKept (readingsRules p r ++ (termsRule p ∷ []))) t, and-l (consentValid (p .consent)) Bool.true (both .1)),
+          (and-l (plantInRange p) (allKept (rulesAfterFigures p r)) t, and-l (bulkingRule p .kept) _ later, and-l (consentValid (p .consent)) Bool.true (both .1)),
       record {
         bod = kept-between (p .flow) (p .«primary_settling») Parameter.Bod (r .bod) (bod .0);
         cod = kept-between (p .flow) (p .«primary_settling») Parameter.Cod (r .cod) (cod .0);

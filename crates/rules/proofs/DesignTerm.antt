@@ -13,7 +13,7 @@ use Rattle.rules.specs.Limits.{leastTermTemperature, mostTemperature, le
 use Rattle.rules.specs.Rules.{Rule, rule, verdict}
 use Rattle.rules.specs.PlantData.{within, plantFigures, figuresWithoutDose, plantInRange}
 use Rattle.rules.specs.Consent.{dateValid, termValid, termsOf, every, consentValid}
-use Rattle.rules.specs.Accepting.{valuesOf, readingsRules, dataRules, accept}
+use Rattle.rules.specs.Accepting.{valuesOf, readingsRules, bulkingRule, dataRules, accept}
 use Rattle.rules.specs.AgeNitrate.{denitrified, covered, onGrid}
 use Rattle.rules.specs.ReactorSteps.{sludgeProduction, reactorOf}
 use Rattle.rules.specs.SettlingSteps.{settlingOf}
@@ -90,7 +90,7 @@ module _ (p : Plant) (more fewer : Consent) (h : OneMore p more fewer) where
     where
       go : (b : Bool) → plantInRange p ≡ b → verdict (dataRules (withConsent more p) r) ≡ verdict (dataRules (withConsent fewer p) r)
       go false e = rw e
-      go true e = ap (λ (v : Bool). verdict (rule Refusal.PlantData (plantInRange p) ∷ (readingsRules p r ++ (rule Refusal.Terms v ∷ [])))) (consents-valid (subst T (sym e) tt))
+      go true e = ap (λ (v : Bool). verdict (rule Refusal.PlantData (plantInRange p) ∷ bulkingRule p ∷ (readingsRules p r ++ (rule Refusal.Terms v ∷ [])))) (consents-valid (subst T (sym e) tt))
 
   candidate-rules : (x : Concentrations) (y : Candidate) → verdict (candidateRules (withConsent more p) x y) ≡ verdict (candidateRules (withConsent fewer p) x y)
   unfolding candidateRules withConsent reactorOf settlingOf sludgeProduction nitrifies termShare termFraction termRemoves termCovered

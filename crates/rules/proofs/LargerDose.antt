@@ -1,7 +1,6 @@
 -- A larger dose never loses a permitted candidate, and a choice with it is never larger; of a sheet it moves oxygen and
 -- transfer alone. Assumes nothing.
 use mathlib.Core.Path.{_≡_, refl, ap, sym, subst, _∙_}
-use mathlib.Core.List.{[], _∷_, _++_}
 use Prim.Native.Nat.{ℕ, _+_, _*_, _≤_}
 use native.Mathlib.Omega.{arith}
 use lib.Dec.{T, leb, leb→le, le→leb}
@@ -12,7 +11,7 @@ use Rattle.rules.specs.Limits.{mostDose}
 use Rattle.rules.specs.Rules.{allKept}
 use Rattle.rules.specs.PlantData.{within, allWithin, figuresWithoutDose, plantInRange}
 use Rattle.rules.specs.Consent.{termsOf}
-use Rattle.rules.specs.Accepting.{valuesOf, readingsRules, termsRule, dataRules, accept}
+use Rattle.rules.specs.Accepting.{valuesOf, rulesAfterFigures, dataRules, accept}
 use Rattle.rules.specs.AgeNitrate.{removedByDose, covered}
 use Rattle.rules.specs.ReactorSteps.{sludgeProduction, reactorOf}
 use Rattle.rules.specs.SettlingSteps.{settlingOf}
@@ -101,7 +100,7 @@ accepted-with : (p : Plant) (r : Readings) (x : Concentrations) (m n : ℕ) → 
 unfolding withDose dataRules figuresWithoutDose valuesOf
 accepted-with p r x m n h e =
     let given = accepted-none-due (withDose m p) r x e in
-    let later = allKept (readingsRules p r ++ (termsRule p ∷ [])) in
+    let later = allKept (rulesAfterFigures p r) in
     let plant = subst T (in-range-with-dose (withDose m p)) (and-l (plantInRange (withDose m p)) later (given .0)) in
     let figures = and-l (allWithin (figuresWithoutDose p)) (within 0 mostDose m) plant in
     let dosed = subst T (sym (in-range-with-dose (withDose n p))) (and-i (allWithin (figuresWithoutDose p)) (within 0 mostDose n) figures (within-between 0 mostDose n .1 (record { least = omega arith; most = h }))) in

@@ -22,6 +22,7 @@ pub mod TargetLaws
 pub mod NoTerms
 pub mod DesignFraction
 pub mod DesignTerm
+pub mod BulkingSludge
 pub mod NoDose
 pub mod StepsWithoutDose
 pub mod LargerDose

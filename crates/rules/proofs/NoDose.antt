@@ -10,7 +10,7 @@ use Rattle.rules.specs.Limits.{mostDose}
 use Rattle.rules.specs.Rules.{rule, verdict}
 use Rattle.rules.specs.PlantData.{within, Figure, allWithin, figure, figuresWithoutDose, plantFigures, plantInRange}
 use Rattle.rules.specs.Consent.{termsOf, every}
-use Rattle.rules.specs.Accepting.{readingsRules, termsRule, dataRules}
+use Rattle.rules.specs.Accepting.{rulesAfterFigures, dataRules}
 use Rattle.rules.specs.AgeNitrate.{removedByBod, removedByDose, removable, covered}
 use Rattle.rules.specs.ReactorSteps.{reactorOf}
 use Rattle.rules.specs.SettlingSteps.{settlingOf}
@@ -77,7 +77,7 @@ terms-without-dose p x reactor (term ∷ later) e = ap₂ _&&_ (term-without-dos
 data-rules : (p : Plant) (r : Readings) → p .dose ≡ 0 → dataRules p r ≡ dataRulesWithoutDose p r
 unfolding dataRules dataRulesWithoutDose
 data-rules p r e =
-    ap (λ (b : Bool). rule Refusal.PlantData b ∷ (readingsRules p r ++ (termsRule p ∷ [])))
+    ap (λ (b : Bool). rule Refusal.PlantData b ∷ rulesAfterFigures p r)
     (in-range-with-dose p
     ∙ (ap (λ (n : ℕ). allWithin (figuresWithoutDose p) && within 0 mostDose n) e ∙ and-true (allWithin (figuresWithoutDose p))))
 

@@ -10,7 +10,7 @@ use Rattle.rules.specs.Limits.{mostTerms}
 use Rattle.rules.specs.Rules.{rule, verdict}
 use Rattle.rules.specs.PlantData.{plantInRange}
 use Rattle.rules.specs.Consent.{termValid, termsOf, every, consentValid}
-use Rattle.rules.specs.Accepting.{readingsRules, termsRule, dataRules}
+use Rattle.rules.specs.Accepting.{readingsRules, bulkingRule, termsRule, dataRules}
 use Rattle.rules.specs.AgeNitrate.{covered}
 use Rattle.rules.specs.ReactorSteps.{reactorOf}
 use Rattle.rules.specs.SettlingSteps.{settlingOf}
@@ -38,7 +38,7 @@ no-terms-valid c e = ap (λ (b : Bool). leb (c .count) mostTerms && b) (none-fai
 
 data-rules : (p : Plant) (r : Readings) → p .consent .count ≡ 0 → verdict (dataRules p r) ≡ verdict (dataRulesWithoutTerms p r)
 unfolding dataRules dataRulesWithoutTerms
-data-rules p r e = verdict-kept-last (rule Refusal.PlantData (plantInRange p) ∷ readingsRules p r) (termsRule p) (no-terms-valid (p .consent) e)
+data-rules p r e = verdict-kept-last (rule Refusal.PlantData (plantInRange p) ∷ bulkingRule p ∷ readingsRules p r) (termsRule p) (no-terms-valid (p .consent) e)
 
 candidate-rules :
     (p : Plant) (x : Concentrations) (y : Candidate)

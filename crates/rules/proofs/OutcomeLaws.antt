@@ -75,7 +75,7 @@ unfolding valuesFrom
 zeros a zero = tt
 zeros a (suc n) = (refl, zeros (a + 1) n)
 
--- explaining: what a verdict on 1 to 4, 14 and 6 makes of the figures
+-- explaining: what a verdict on the data's rules and 6 makes of the figures
 explainBy : Verdict → Explained → Explanation
 explainBy Verdict.Kept e = Explanation.Figures e
 explainBy (Verdict.Broken n) e = Explanation.Refused n

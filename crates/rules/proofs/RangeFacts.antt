@@ -3,11 +3,12 @@ use mathlib.Core.Logic.{_↔_}
 use Prim.Native.Nat.{_≤_}
 use native.Mathlib.Omega.{arith}
 use mathlib.Core.Bool.{Bool, _&&_}
-use lib.Dec.{T}
+use lib.Dec.{T, leb→le, le→leb}
 use lib.Ieee.Fits.{and-i, and-l, and-r}
 use Rattle.rules.specs.Consent.{consentValid}
 use Rattle.rules.specs.PlantData.{within, figuresWithoutDose, plantFigures, plantInRange}
-use Rattle.rules.specs.Limits.{leastFraction, mostFraction, leastRatio, mostRatio, leastTime, mostTime}
+use Rattle.rules.specs.Limits.{mostIndex, leastFraction, mostFraction, leastRatio, mostRatio, leastTime, mostTime}
+use Rattle.rules.specs.Accepting.{bulkingRule}
 use Rattle.rules.specs.AgeNitrate.{largestReturnRatio, onGrid}
 use Rattle.rules.specs.Ranges.{Between, GridFraction, GridTime, PlantRanges, OnGrid}
 use Rattle.rules.specs.declared.Plant.{Plant}
@@ -16,16 +17,16 @@ use Rattle.rules.specs.declared.Candidate.{Candidate}
 use Rattle.rules.proofs.Tests.{within-between, AllBetween, all-between, between-all}
 
 -- the facts, from the table's figures in turn
-named : (p : Plant) → AllBetween (plantFigures p) → T (consentValid (p .consent)) → PlantRanges p
+named : (p : Plant) → AllBetween (plantFigures p) → p .«sludge_volume_index» ≤ mostIndex → T (consentValid (p .consent)) → PlantRanges p
 unfolding plantFigures figuresWithoutDose
-named p b valid =
+named p b index valid =
     record {
       load = b .0;
       flow = b .1 .0;
       wet = b .1 .1 .0;
       design = b .1 .1 .1 .0;
       aeration = b .1 .1 .1 .1 .0;
-      index = b .1 .1 .1 .1 .1 .0;
+      index = record { least = b .1 .1 .1 .1 .1 .0 .least; most = index };
       nitrate = b .1 .1 .1 .1 .1 .1 .0;
       phosphorus = b .1 .1 .1 .1 .1 .1 .1 .0;
       carbonPeak = b .1 .1 .1 .1 .1 .1 .1 .1 .0;
@@ -50,7 +51,7 @@ listed p b = (
         (
           b .aeration,
           (
-            b .index,
+            record { least = b .index .least; most = omega (arith, b .index) },
             (b .nitrate, (b .phosphorus, (b .carbonPeak, (b .nitrogenPeak, (b .saturation, (b .surface, (b .depth, (b .dose, tt)))))))),
           ),
         ),
@@ -59,11 +60,11 @@ listed p b = (
   ),
 )
 
-pub plant-ranges : (p : Plant) → (T (plantInRange p) × T (consentValid (p .consent))) ↔ PlantRanges p
+pub plant-ranges : (p : Plant) → (T (plantInRange p) × T (bulkingRule p .kept) × T (consentValid (p .consent))) ↔ PlantRanges p
 unfolding plantInRange
 plant-ranges p = (
-  λ t. named p (all-between (plantFigures p) (t .0)) (t .1),
-  λ b. (between-all (plantFigures p) (listed p b), b .consent),
+  λ t. named p (all-between (plantFigures p) (t .0)) (leb→le (p .«sludge_volume_index») mostIndex (t .1)) (t .2),
+  λ b. (between-all (plantFigures p) (listed p b), le→leb (p .«sludge_volume_index») mostIndex (b .index .most), b .consent),
 )
 
 -- where the figures are in their ranges, whatever the consent, the daily flow is above 0

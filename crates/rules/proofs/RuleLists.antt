@@ -1,13 +1,15 @@
 -- Laws of rules in order, each by one induction over the list: all kept is the verdict `Kept`, the first broken is the
 -- verdict `Broken`, and a list's parts are judged in turn. Assumes nothing.
 use mathlib.Core.Logic.{_↔_, _⊎_, inl, inr}
-use mathlib.Core.Path.{_≡_, refl, sym, ap, _∙_}
-use mathlib.Core.Bool.{Bool, true, false, cond, not, _&&_}
+use mathlib.Core.Path.{_≡_, refl, sym, ap, subst, _∙_}
+use mathlib.Core.Bool.{Bool, true, false, cond, not, _&&_, _||_}
 use mathlib.Core.List.{List, [], _∷_, _++_}
 use Prim.Native.Nat.{ℕ}
 use native.Mathlib.Omega.{arith}
-use lib.Dec.{T}
+use borrow.Author.Tests.{eq-eqb}
+use lib.Dec.{T, eqb}
 use Rattle.rules.specs.Rules.{Rule, allKept, verdict, after, FirstBroken}
+use Rattle.rules.specs.Answers.{refusalNumber}
 use Rattle.rules.specs.declared.Refusal.{Refusal}
 use Rattle.rules.specs.declared.Verdict.{Verdict}
 
@@ -41,6 +43,25 @@ broken-verdict (r ∷ later) n = go (r .kept) (broken-verdict later n)
         stop : ((T (not false) × (r .refusal ≡ n)) ⊎ (T false × FirstBroken later n)) → Verdict.Broken (r .refusal) ≡ Verdict.Broken n
         stop (inl f) = ap Verdict.Broken (f .1)
         stop (inr f) = absurd (f .0)
+
+-- some rule of a list has this number
+abbrev pub numbered : ℕ → List Rule → Bool
+numbered k [] = false
+numbered k (r ∷ later) = eqb (refusalNumber (r .refusal)) k || numbered k later
+
+-- the first broken is one of the list's
+pub first-broken-among : (l : List Rule) (n : Refusal) → FirstBroken l n → T (numbered (refusalNumber n) l)
+first-broken-among [] n f = f
+first-broken-among (r ∷ later) n (inl f) = here (eqb (refusalNumber (r .refusal)) (refusalNumber n)) (eq-eqb _ _ (ap refusalNumber (f .1)))
+  where
+    here : (b : Bool) → b ≡ true → T (b || numbered (refusalNumber n) later)
+    here true e = tt
+    here false e = absurd (subst T (sym e) tt)
+first-broken-among (r ∷ later) n (inr f) = later-one (eqb (refusalNumber (r .refusal)) (refusalNumber n)) (first-broken-among later n (f .1))
+  where
+    later-one : (b : Bool) → T (numbered (refusalNumber n) later) → T (b || numbered (refusalNumber n) later)
+    later-one true t = tt
+    later-one false t = t
 
 pub verdict-append : (a b : List Rule) → verdict (a ++ b) ≡ after (verdict a) (verdict b)
 verdict-append [] b = refl

@@ -26,6 +26,7 @@ refusals (r ∷ later) = r .refusal ∷ refusals later
 
 pub in-order : (p : Plant) (r : Readings) (y : Candidate) → refusals (examinationRules p r y)
     ≡ Refusal.PlantData
+    ∷ Refusal.Bulking
     ∷ Refusal.NoNumber ∷ Refusal.ReadingRange
     ∷ Refusal.NoNumber ∷ Refusal.ReadingRange
     ∷ Refusal.NoNumber ∷ Refusal.ReadingRange
@@ -64,6 +65,7 @@ small n =
       | Refusal.Terms ↦ tt
       | Refusal.Nitrification ↦ tt
       | Refusal.TermNitrate ↦ tt
+      | Refusal.Bulking ↦ tt
     ]
 
 pub refusal-number-between : (n : Refusal) → Between 1 31 (refusalNumber n)

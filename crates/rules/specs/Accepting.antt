@@ -1,7 +1,9 @@
--- Document 01's rules 1 to 4 and document 02's 14 in their order, and "accepted": none of them is broken. Assumes nothing.
+-- Document 01's rules 1 to 4 and document 02's 17 and 14 in their order, and "accepted": none of them is broken. Assumes nothing.
 use Prim.Native.Nat.{ℕ}
 use mathlib.Core.Bool.{not}
 use mathlib.Core.List.{List, [], _∷_, _++_}
+use lib.Dec.{leb}
+use Rattle.rules.specs.Limits.{mostIndex}
 use Rattle.rules.specs.Rules.{Rule, rule, verdict}
 use Rattle.rules.specs.PlantData.{plantInRange}
 use Rattle.rules.specs.Consent.{consentValid}
@@ -42,13 +44,21 @@ readingsRules p r =
     ++ (readingRules (p .flow) (p .«primary_settling») Parameter.Phosphorus (r .phosphorus)
     ++ (rule Refusal.CodRatio (not (codRatioBroken (valuesOf p r .bod) (valuesOf p r .cod))) ∷ [])))))
 
+-- 17: no bulking sludge
+abbrev pub bulkingRule : Plant → Rule
+bulkingRule p = rule Refusal.Bulking (leb (p .«sludge_volume_index») mostIndex)
+
 -- 14: the terms of the consent are valid
 abbrev pub termsRule : Plant → Rule
 termsRule p = rule Refusal.Terms (consentValid (p .consent))
 
--- the rules for plant data and readings: 1; then 2 and 3 of each reading in turn; then 4; then 14
+-- what is asked once the figures are in range: 17; then 2 and 3 of each reading in turn; then 4; then 14
+abbrev pub rulesAfterFigures : Plant → Readings → List Rule
+rulesAfterFigures p r = bulkingRule p ∷ (readingsRules p r ++ (termsRule p ∷ []))
+
+-- the rules for plant data and readings: 1, and then those
 unfoldable pub dataRules : Plant → Readings → List Rule
-dataRules p r = rule Refusal.PlantData (plantInRange p) ∷ (readingsRules p r ++ (termsRule p ∷ []))
+dataRules p r = rule Refusal.PlantData (plantInRange p) ∷ rulesAfterFigures p r
 
 -- what a verdict on the rules makes of the readings' values
 unfoldable pub acceptBy : Verdict → Concentrations → Acceptance

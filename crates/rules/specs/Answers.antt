@@ -27,6 +27,7 @@ refusalNumber Refusal.DayValue = 13
 refusalNumber Refusal.Terms = 14
 refusalNumber Refusal.Nitrification = 15
 refusalNumber Refusal.TermNitrate = 16
+refusalNumber Refusal.Bulking = 17
 
 -- a sheet of zeros
 unfoldable pub emptySheet : Sheet

@@ -62,6 +62,6 @@ pub record Counts (p : Plant) (r : Readings) (number : ℕ) (counts : List ℕ) 
   pub kept : T (allKept (dataRules p r))
   pub values : counts ≡ valuesFrom 0 answerNumbers (counted p (valuesOf p r))
 
--- .. or the refusal of the first of 1 to 4 and 14 that is broken, and zeros
+-- .. or the refusal of the first of the data's rules that is broken, and zeros
 abbrev pub CensusOutcome : Plant → Readings → ℕ → List ℕ → Type 0
 CensusOutcome p r number counts = Counts p r number counts ⊎ Refuses (FirstBroken (dataRules p r)) number counts

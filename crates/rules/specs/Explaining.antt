@@ -77,6 +77,6 @@ explainAccepted p y (Acceptance.Accepted x) = explainCandidate p x y
 unfoldable pub explain : Plant → Readings → Candidate → Explanation
 explain p r y = explainAccepted p y (accept p r)
 
--- the rules that explaining goes through: 1 to 4, 14 and 6
+-- the rules that explaining goes through: those of the data, then 6
 unfoldable pub explanationRules : Plant → Readings → Candidate → List Rule
 explanationRules p r y = dataRules p r ++ (gridRule p y ∷ [])

@@ -1,8 +1,9 @@
 -- Document 01 as definitions over the whole numbers, in its order: the roundings; plant data and site; lab readings, with
 -- the rules 1 to 4; sludge age and nitrate; sludge and tanks; aeration and recirculation; examining, with the rules 6 to
--- 10, and numbered answers; choosing; the listing; the worked cases. From document 02 the dose, and the terms of the consent
--- with the rules 14 to 16. Beside them: the ranges as facts, the two nitrate columns, what explains a candidate, the census of
--- the grid, the day log with its highest two-week load, and the steps without a dose and without terms.
+-- 10, and numbered answers; choosing; the listing; the worked cases. From document 02 the dose, the terms of the consent
+-- with the rules 14 to 16, and bulking sludge with rule 17. Beside them: the ranges as facts, the two nitrate columns, what
+-- explains a candidate, the census of the grid, the day log with its highest two-week load, and the steps without a dose, without
+-- terms and without bulking sludge.
 pub mod Rounding
 pub mod Limits
 pub mod Sums
@@ -29,6 +30,7 @@ pub mod OtherSteps
 pub mod WithoutDose
 pub mod WithoutTerms
 pub mod Census
+pub mod Bulking
 pub mod DayLog
 pub mod DayLogOutcome
 pub mod Listing

@@ -1,5 +1,5 @@
 -- Numbers that stand in several places, each named once: the ends of the grid, of the plant's and the terms' temperatures, of
--- the nitrate targets and of the dose, and round limits of the figures for accepted data on the grid, which the arithmetic of
+-- the sludge volume index, of the nitrate targets and of the dose, and round limits of the figures for accepted data on the grid, which the arithmetic of
 -- the inner functions needs. Assumes nothing.
 use Prim.Native.Nat.{ℕ}
 
@@ -13,6 +13,13 @@ mostTemperature = 20
 -- the lowest temperature of a term of the consent
 abbrev pub leastTermTemperature : ℕ
 leastTermTemperature = 4
+
+-- I, l/kg, of a sludge that does not bulk
+abbrev pub leastIndex : ℕ
+leastIndex = 50
+
+abbrev pub mostIndex : ℕ
+mostIndex = 180
 
 -- N3 and the targets of the terms, mg/m3
 abbrev pub leastNitrateTarget : ℕ

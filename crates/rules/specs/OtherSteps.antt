@@ -20,16 +20,16 @@ use Rattle.rules.specs.declared.Refusal.{Refusal}
 use Rattle.rules.specs.declared.Acceptance.{Acceptance}
 use Rattle.rules.specs.declared.Answer.{Answer}
 
--- a plant with other data of document 02: its dose and its consent
-abbrev pub alteredPlant : ℕ → Consent → Plant → Plant
-alteredPlant dose consent p =
+-- a plant with another sludge volume index, dose and consent
+abbrev pub alteredPlant : ℕ → ℕ → Consent → Plant → Plant
+alteredPlant index dose consent p =
     record {
       load = p .load;
       flow = p .flow;
       «wet_weather_flow» = p .«wet_weather_flow»;
       «design_temperature» = p .«design_temperature»;
       «aeration_temperature» = p .«aeration_temperature»;
-      «sludge_volume_index» = p .«sludge_volume_index»;
+      «sludge_volume_index» = index;
       «nitrate_target» = p .«nitrate_target»;
       «phosphorus_target» = p .«phosphorus_target»;
       «carbon_peak» = p .«carbon_peak»;

@@ -64,7 +64,7 @@ ChoosingDue p r n = FirstBroken (dataRules p r) n ⊎ ((n ≡ Refusal.NoDesign) 
 abbrev pub ChosenOutcome : Plant → Readings → ℕ → Sheet → Type 0
 ChosenOutcome p r number sheet = Designs p r number sheet ⊎ Refuses (ChoosingDue p r) number (sheetFigures sheet)
 
--- explaining: the figures of a candidate on the grid of accepted data, or the first refusal of 1 to 4, 14 and 6
+-- explaining: the figures of a candidate on the grid of accepted data, or the first refusal of the data's rules and 6
 pub record Explains (p : Plant) (r : Readings) (y : Candidate) (number : ℕ) (figures : Explained) : Type 0 where
   pub numbered : number ≡ 0
   pub kept : T (allKept (explanationRules p r y))

@@ -3,7 +3,7 @@ use Prim.Native.Nat.{ℕ}
 use mathlib.Core.Bool.{Bool, true, _&&_}
 use mathlib.Core.List.{List, [], _∷_, _++_}
 use lib.Dec.{leb}
-use Rattle.rules.specs.Limits.{leastTemperature, mostTemperature, leastNitrateTarget, mostNitrateTarget, mostDose}
+use Rattle.rules.specs.Limits.{leastTemperature, mostTemperature, leastIndex, leastNitrateTarget, mostNitrateTarget, mostDose}
 use Rattle.rules.specs.declared.Plant.{Plant}
 
 -- n lies in the range least..most, both ends included
@@ -32,7 +32,7 @@ figuresWithoutDose p =
     ∷ figure 1 50_000 (p .«wet_weather_flow»)
     ∷ figure leastTemperature mostTemperature (p .«design_temperature»)
     ∷ figure leastTemperature mostTemperature (p .«aeration_temperature»)
-    ∷ figure 50 200 (p .«sludge_volume_index»)
+    ∷ figure leastIndex 200 (p .«sludge_volume_index»)
     ∷ figure leastNitrateTarget mostNitrateTarget (p .«nitrate_target»)
     ∷ figure 0 100_000 (p .«phosphorus_target»)
     ∷ figure 100 300 (p .«carbon_peak»)

@@ -1,8 +1,8 @@
 -- The ranges of accepted data and of the grid as facts, for the contracts of the inner functions. Those of the plant data
--- and of the grid are the tests of PlantData, Consent and AgeNitrate, no more and no less (proofs/RangeFacts.antt); accepted
--- concentrations are in theirs (proofs/AcceptedData.antt). Assumes nothing.
+-- and of the grid are the tests of 1, 17, 14 and 6, no more and no less (proofs/RangeFacts.antt); accepted concentrations are
+-- in theirs (proofs/AcceptedData.antt). Assumes nothing.
 use Prim.Native.Nat.{ℕ, _≤_}
-use Rattle.rules.specs.Limits.{leastTemperature, leastTermTemperature, mostTemperature, leastNitrateTarget, mostNitrateTarget, leastFraction, mostFraction, leastRatio, mostRatio, leastTime, mostTime, mostAge, mostNitrogen, mostRemoves, mostDose, mostRemovedByDose, mostSludge, mostMass, leastSolids, mostSolids, mostSludgeVolume, mostSurface, leastDepth, mostDepth, mostSettlingVolume}
+use Rattle.rules.specs.Limits.{leastTemperature, leastTermTemperature, mostTemperature, leastIndex, mostIndex, leastNitrateTarget, mostNitrateTarget, leastFraction, mostFraction, leastRatio, mostRatio, leastTime, mostTime, mostAge, mostNitrogen, mostRemoves, mostDose, mostRemovedByDose, mostSludge, mostMass, leastSolids, mostSolids, mostSludgeVolume, mostSurface, leastDepth, mostDepth, mostSettlingVolume}
 use lib.Dec.{T}
 use Rattle.rules.specs.Consent.{consentValid}
 use Rattle.rules.specs.declared.Plant.{Plant}
@@ -16,13 +16,16 @@ pub record Between (low high n : ℕ) : Type 0 where
   pub least : low ≤ n
   pub most : n ≤ high
 
--- a temperature of the plant data; one of a term of the consent; a fraction, a return ratio of either flow and a thickening
+-- a temperature of the plant data; one of a term of the consent; a sludge volume index; a fraction, a return ratio of either flow and a thickening
 -- time of the grid
 abbrev pub Temperature : ℕ → Type 0
 Temperature n = Between leastTemperature mostTemperature n
 
 abbrev pub TermTemperature : ℕ → Type 0
 TermTemperature n = Between leastTermTemperature mostTemperature n
+
+abbrev pub Index : ℕ → Type 0
+Index n = Between leastIndex mostIndex n
 
 abbrev pub GridFraction : ℕ → Type 0
 GridFraction n = Between leastFraction mostFraction n
@@ -33,14 +36,14 @@ GridRatio n = Between leastRatio mostRatio n
 abbrev pub GridTime : ℕ → Type 0
 GridTime n = Between leastTime mostTime n
 
--- the plant and site figures are in their ranges, and the terms of the consent are valid
+-- the plant and site figures are in their ranges, the sludge does not bulk, and the terms of the consent are valid
 pub record PlantRanges (p : Plant) : Type 0 where
   pub load : Between 1 100_000 (p .load)
   pub flow : Between 1 200_000 (p .flow)
   pub wet : Between 1 50_000 (p .«wet_weather_flow»)
   pub design : Temperature (p .«design_temperature»)
   pub aeration : Temperature (p .«aeration_temperature»)
-  pub index : Between 50 200 (p .«sludge_volume_index»)
+  pub index : Index (p .«sludge_volume_index»)
   pub nitrate : Between leastNitrateTarget mostNitrateTarget (p .«nitrate_target»)
   pub phosphorus : Between 0 100_000 (p .«phosphorus_target»)
   pub carbonPeak : Between 100 300 (p .«carbon_peak»)

@@ -2,12 +2,12 @@
 -- (proofs/StepsWithoutDose.antt); that a dose of 0 changes nothing is said against these (proofs/NoDose.antt). Assumes nothing.
 use Prim.Native.Nat.{ℕ, _*_}
 use mathlib.Core.Bool.{Bool}
-use mathlib.Core.List.{List, [], _∷_, _++_}
+use mathlib.Core.List.{List, _∷_}
 use lib.Dec.{leb}
 use Rattle.rules.specs.Rules.{Rule, rule}
 use Rattle.rules.specs.PlantData.{allWithin, figuresWithoutDose}
 use Rattle.rules.specs.Consent.{termsOf, every}
-use Rattle.rules.specs.Accepting.{readingsRules, termsRule}
+use Rattle.rules.specs.Accepting.{rulesAfterFigures}
 use Rattle.rules.specs.ReactorSteps.{reactorOf}
 use Rattle.rules.specs.SettlingSteps.{settlingOf}
 use Rattle.rules.specs.AerationSteps.{aerationSaving}
@@ -25,11 +25,11 @@ use Rattle.rules.specs.declared.Refusal.{Refusal}
 
 -- a plant with another dose
 unfoldable pub withDose : ℕ → Plant → Plant
-withDose dose p = alteredPlant dose (p .consent) p
+withDose dose p = alteredPlant (p .«sludge_volume_index») dose (p .consent) p
 
--- 1 asks of document 01's figures alone; then 2 to 4 and 14
+-- 1 asks of document 01's figures alone; then the other rules
 unfoldable pub dataRulesWithoutDose : Plant → Readings → List Rule
-dataRulesWithoutDose p r = rule Refusal.PlantData (allWithin (figuresWithoutDose p)) ∷ (readingsRules p r ++ (termsRule p ∷ []))
+dataRulesWithoutDose p r = rule Refusal.PlantData (allWithin (figuresWithoutDose p)) ∷ rulesAfterFigures p r
 
 -- document 01's "covered", from K × C and D: K × C ≥ 1000 × D
 unfoldable pub coveredByBod : ℕ → ℕ → Bool

@@ -3,7 +3,7 @@
 use mathlib.Core.List.{List, _∷_}
 use Rattle.rules.specs.Rules.{Rule, rule}
 use Rattle.rules.specs.PlantData.{plantInRange}
-use Rattle.rules.specs.Accepting.{readingsRules}
+use Rattle.rules.specs.Accepting.{bulkingRule, readingsRules}
 use Rattle.rules.specs.AgeNitrate.{covered}
 use Rattle.rules.specs.ReactorSteps.{reactorOf}
 use Rattle.rules.specs.SettlingSteps.{settlingOf}
@@ -18,11 +18,11 @@ use Rattle.rules.specs.declared.Refusal.{Refusal}
 
 -- a plant with another consent
 unfoldable pub withConsent : Consent → Plant → Plant
-withConsent consent p = alteredPlant (p .dose) consent p
+withConsent consent p = alteredPlant (p .«sludge_volume_index») (p .dose) consent p
 
--- 1; then 2 and 3 of each reading in turn; then 4
+-- 1; then 17; then 2 and 3 of each reading in turn; then 4
 unfoldable pub dataRulesWithoutTerms : Plant → Readings → List Rule
-dataRulesWithoutTerms p r = rule Refusal.PlantData (plantInRange p) ∷ readingsRules p r
+dataRulesWithoutTerms p r = rule Refusal.PlantData (plantInRange p) ∷ bulkingRule p ∷ readingsRules p r
 
 -- 6 to 10
 unfoldable pub rulesWithoutTerms : Plant → Concentrations → Candidate → List Rule

@@ -20,6 +20,9 @@ pub const MOST_TEMPERATURE: u32 = 20;
 
 pub const LEAST_TERM_TEMPERATURE: u32 = 4;
 
+// The largest sludge volume index of a sludge that does not bulk.
+pub const MOST_INDEX: u32 = 180;
+
 pub const LEAST_NITRATE_TARGET: u32 = 1_000;
 
 pub const MOST_NITRATE_TARGET: u32 = 50_000;
@@ -253,6 +256,7 @@ pub enum Refusal {
     Terms,
     Nitrification,
     TermNitrate,
+    Bulking,
 }
 
 // What a list of rules says: all of them are kept, or the refusal of the first that is broken.
@@ -326,7 +330,7 @@ pub struct Explained {
     pub fourth: TermExplained,
 }
 
-// What explaining a candidate answers: its figures, or one refusal of 1 to 4, 14 and 6.
+// What explaining a candidate answers: its figures, or one refusal of the data's rules and 6.
 pub enum Explanation {
     Figures(Explained),
     Refused(Refusal),

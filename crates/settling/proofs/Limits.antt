@@ -5,7 +5,7 @@ use Prim.Native.Nat.{ℕ, _+_, _-_, _*_, _≤_, _<_}
 use native.Mathlib.Nat.{mul-le-mul, mul-le-mul-left, mul-le-mul-right, le-of-mul-le-mul-left, div-mul-le-self}
 use native.Mathlib.Omega.{arith}
 use Rattle.rules.specs.Rounding.{down, up}
-use Rattle.rules.specs.Ranges.{Between}
+use Rattle.rules.specs.Ranges.{Between, Index}
 use Rattle.rules.specs.SettlingSteps.{cubeRoot, thickeningRoot, bottomSludge, returnShare, returnSludge, mixedSolids, dilutedVolume, volumeLoading, largestOverflowRate, surfaceOverflowRate, settlingSurface, settlingDepth, settlingVolume}
 use Rattle.rules.specs.declared.Removal.{Removal}
 use Rattle.rules.specs.declared.TankFlow.{TankFlow}
@@ -38,7 +38,7 @@ pub bottom-index : {c : ℕ} (index : ℕ) → Between 1_259 1_357 c → bottomS
 unfolding bottomSludge
 bottom-index {c} index b = omega (arith, down-mul (1000 * c) index)
 
-pub bottom-limits : {c index : ℕ} → Between 1_259 1_357 c → Between 50 200 index → Between 6_200 28_000 (bottomSludge c index)
+pub bottom-limits : {c index : ℕ} → Between 1_259 1_357 c → Index index → Between 6_200 28_000 (bottomSludge c index)
 unfolding bottomSludge
 bottom-limits {c} {index} b i =
     record {
@@ -76,7 +76,7 @@ mixed-limits {returned} {ratio} b r =
 pub solids-index : (solids bottom index : ℕ) → 2 * solids ≤ bottom → bottom * index ≤ 1_357_000 → solids * index ≤ 678_500
 solids-index solids bottom index half product = omega (arith, mul-le-mul-right index half)
 
-pub diluted-limits : {solids index : ℕ} → Between 700 14_000 solids → Between 50 200 index → solids * index ≤ 678_500 → Between 1 679 (dilutedVolume solids index)
+pub diluted-limits : {solids index : ℕ} → Between 700 14_000 solids → Index index → solids * index ≤ 678_500 → Between 1 679 (dilutedVolume solids index)
 unfolding dilutedVolume
 diluted-limits {solids} {index} e i product = omega (arith, mul-le-mul (e .least) (i .least))
 

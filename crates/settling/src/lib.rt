@@ -2,7 +2,7 @@
 ghost use mathlib.Core.Path.{_≡_};
 ghost use Prim.Native.Nat.{_*_, _≤_, _<_};
 ghost use Rattle.rules.specs.Limits.{leastSolids, mostSolids, mostSludgeVolume, mostSurface, leastDepth, mostDepth, mostSettlingVolume};
-ghost use Rattle.rules.specs.Ranges.{Between, GridRatio, GridTime, PlantRanges, SettlingBounds};
+ghost use Rattle.rules.specs.Ranges.{Between, Index, GridRatio, GridTime, PlantRanges, SettlingBounds};
 ghost use Rattle.rules.specs.SettlingSteps.{cubeRoot, thickeningRoot, bottomSludge, returnShare, returnSludge, mixedSolids, dilutedVolume, solidsKept, volumeLoading, largestOverflowRate, surfaceOverflowRate, settlingSurface, settlingDepth, settlingVolume, settlingOf};
 ghost use Rattle.rules.specs.Rules.{verdict};
 ghost use Rattle.rules.specs.Examining.{tankRules};
@@ -47,7 +47,7 @@ fn thickening_root(thickening: u64) -> u64
 
 // B, bottom sludge, g/m3: one figure for each thickening time, whatever the return ratio.
 pub fn bottom_sludge(index: u32, thickening: u32) -> u64
-    requires { ⌜ Between 50 200 index × GridTime thickening ⌝ }
+    requires { ⌜ Index index × GridTime thickening ⌝ }
     ensures { λ r. ⌜ (r ≡ bottomSludge (thickeningRoot thickening) index) × Between 6_200 28_000 r ⌝ }
 {
     1000 * thickening_root(thickening as u64) / index as u64
@@ -82,7 +82,7 @@ fn mixed_solids(returned: u64, ratio: u64) -> u64
 
 // V, diluted sludge volume, l/m3
 fn diluted_volume(solids: u64, index: u64) -> u64
-    requires { ⌜ Between leastSolids mostSolids solids × Between 50 200 index × (solids * index ≤ 678_500) ⌝ }
+    requires { ⌜ Between leastSolids mostSolids solids × Index index × (solids * index ≤ 678_500) ⌝ }
     ensures { λ r. ⌜ (r ≡ dilutedVolume solids index) × Between 1 mostSludgeVolume r ⌝ }
 {
     rounding::round_up(solids * index, 1000)

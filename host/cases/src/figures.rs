@@ -3,7 +3,7 @@
 use crate::request::Request;
 use reference::stages::Stages;
 
-/// The stages of a request that is not malformed and gets no refusal 1 to 4,
+/// The stages of a request that is not malformed and gets no refusal 1 to 4, 17,
 /// 14 or 6.
 pub fn of_request(request: &Request) -> Option<Stages> {
     let data = request.decoded().ok()?;

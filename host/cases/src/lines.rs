@@ -10,7 +10,7 @@ use reference::reading::{result_range, Determinand, ORDER};
 use reference::stages::Stages;
 use reference::{accept, Process};
 
-/// The accepted concentrations of a request, if none of 1 to 4 and 14 is due.
+/// The accepted concentrations of a request, if none of 1, 17, 2 to 4 and 14 is due.
 pub fn accepted(request: &Request) -> Option<[u64; 5]> {
     let decoded = request.decoded().ok()?;
     accept(&decoded.plant, &decoded.readings).ok()

@@ -127,6 +127,7 @@ pub fn plausible(random: &mut Random) -> Request {
 pub fn anything(random: &mut Random) -> Request {
     let mut plant = case_a();
     for (place, least, most) in PLANT_RANGES {
+        let most = largest_accepted(place, most);
         let value = match random.within(0, 23) {
             0 => least,
             1 => most,

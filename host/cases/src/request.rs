@@ -63,7 +63,10 @@ pub const HEADS: u32 = 2;
 /// Largest dose of external carbon, mg/m3 as COD.
 pub const MOST_DOSE: u32 = 500_000;
 
-/// Range of each plant and site figure.
+/// Largest sludge volume index that is not refused as bulking sludge.
+pub const MOST_INDEX: u32 = 180;
+
+/// Range of each plant and site figure, as refusal 1 has it.
 pub const PLANT_RANGES: [(usize, u32, u32); 14] = [
     (LOAD, 1, 100_000),
     (FLOW, 1, 200_000),
@@ -80,6 +83,15 @@ pub const PLANT_RANGES: [(usize, u32, u32); 14] = [
     (SITE_DEPTH, 3_000, 10_000),
     (DOSE, 0, MOST_DOSE),
 ];
+
+/// The largest value of a plant figure that is accepted: the index has 17 above
+/// it.
+pub fn largest_accepted(place: usize, most: u32) -> u32 {
+    match place {
+        SLUDGE_VOLUME_INDEX => MOST_INDEX,
+        _ => most,
+    }
+}
 
 /// Range of a term's temperature and target.
 pub const TERM_RANGES: [(usize, u32, u32); 2] =

@@ -35,7 +35,7 @@ pub fn all() -> Vec<Tank> {
     let mut tanks = Vec::new();
     for thickening in 20..=25 {
         let root = cube_root(u64::from(thickening));
-        for index in 50..=200 {
+        for index in 50..=MOST_INDEX {
             for removal in 0..=2 {
                 for return_ratio in 30..=100 {
                     tanks.push(tank(index, removal, return_ratio, thickening, root));

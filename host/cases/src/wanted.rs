@@ -140,6 +140,13 @@ const WANTED_TERMS: [Wanted; 41] = [
     ("random terms", 12, &[]),
 ];
 
+const WANTED_BULKING: [Wanted; 4] = [
+    ("index of 180", 10, PASSED),
+    ("bulking sludge", 20, &[17]),
+    ("1 before 17", 20, &[1]),
+    ("17 before every other", 18, &[17]),
+];
+
 const WANTED_PAGES: [Wanted; 5] = [
     ("exact page", 8, &[0, 1, 5, 9, 10]),
     ("page one byte short", 8, &[11]),
@@ -149,8 +156,8 @@ const WANTED_PAGES: [Wanted; 5] = [
 ];
 
 /// Numbers that each operation must give at least once.
-const EXAMINE_NUMBERS: [u32; 16] = [0, 1, 2, 3, 4, 6, 7, 8, 9, 10, 11, 14, 15, 16, 102, 103];
-const CHOOSE_NUMBERS: [u32; 10] = [0, 1, 2, 3, 4, 5, 11, 14, 102, 103];
+const EXAMINE_NUMBERS: [u32; 17] = [0, 1, 2, 3, 4, 6, 7, 8, 9, 10, 11, 14, 15, 16, 17, 102, 103];
+const CHOOSE_NUMBERS: [u32; 11] = [0, 1, 2, 3, 4, 5, 11, 14, 17, 102, 103];
 
 /// Counts by kind and by operation and number.
 pub struct Summary {
@@ -180,7 +187,11 @@ impl Summary {
     pub fn faults(&self) -> Vec<String> {
         let mut faults = Vec::new();
         let empty = BTreeMap::new();
-        let wanted = WANTED.iter().chain(&WANTED_TERMS).chain(&WANTED_PAGES);
+        let wanted = WANTED
+            .iter()
+            .chain(&WANTED_TERMS)
+            .chain(&WANTED_BULKING)
+            .chain(&WANTED_PAGES);
         for (kind, least, allowed) in wanted {
             let found = self.kinds.get(kind).unwrap_or(&empty);
             let count: usize = found.values().sum();

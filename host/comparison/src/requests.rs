@@ -85,6 +85,12 @@ fn edged_plant(random: &mut Random, request: Request) -> Request {
     request.with(place, value)
 }
 
+/// A sludge volume index about the line of bulking sludge.
+fn edged_index(random: &mut Random, request: Request) -> Request {
+    let index = random.pick(&[MOST_INDEX - 1, MOST_INDEX, MOST_INDEX + 1, 190, 200, 201]);
+    request.with(SLUDGE_VOLUME_INDEX, index)
+}
+
 /// A candidate at an edge of the grid or past it.
 fn edged_candidate(random: &mut Random, request: Request) -> Request {
     let fraction = random.pick(&[199, 200, 500, 501, 1_000, 350, 350, 350]);
@@ -129,6 +135,7 @@ pub fn any(random: &mut Random, tanks: &OnLines, operation: Operation) -> Vec<u8
         2 => edged_plant(random, request),
         3 => edged_candidate(random, request),
         4 => damaged_words(random, request),
+        5 => edged_index(random, request),
         _ => request,
     };
     let bytes = match operation {

@@ -37,6 +37,7 @@ numbers! {
     TERMS 14 "terms";
     NITRIFICATION 15 "nitrification";
     TERM_NITRATE 16 "term nitrate";
+    BULKING 17 "bulking sludge";
     BAD_LENGTH 101 "bad length";
     BAD_VERSION 102 "bad version";
     BAD_KIND 103 "bad kind";

@@ -6,8 +6,8 @@ use common::{case_a, CASE_A_CANDIDATE, CASE_A_LISTING};
 use library::number::*;
 use library::sheet::{candidates, GRID, LINES};
 use library::{census, choose, day_log, examine, explain, load, target, target_from_page};
-use library::{Candidate, Census, Date, Day, Figures, Load, Request, TankFlow, Term, TermFigures};
-use library::{Terms, LOAD_PAGE, MOST_TERMS, TARGET_LENGTH, TARGET_PAGE, VERSION};
+use library::{Candidate, Census, Date, Day, Figures, Load, Reading, Request, TankFlow, Term};
+use library::{TermFigures, Terms, LOAD_PAGE, MOST_TERMS, TARGET_LENGTH, TARGET_PAGE, VERSION};
 use library::{CENSUS_LENGTH, CHOOSE_LENGTH, COUNTED, EXAMINE_LENGTH, FIGURES_LENGTH, PAGE_LENGTH};
 
 const UNTOUCHED: u8 = 0xaa;
@@ -182,6 +182,32 @@ fn terms_that_are_not_valid_are_refused() {
     ] {
         let mut page = [UNTOUCHED; PAGE_LENGTH];
         assert_eq!(choose(&request.to_choose(), &mut page).0, number);
+        let bytes = request.to_examine(CASE_A_CANDIDATE);
+        assert_eq!(explain(&bytes, &mut page).0, number);
+    }
+}
+
+/// 17 from an index of 181 on, before any reading; 1 comes first.
+#[test]
+fn bulking_sludge_is_refused() {
+    let not_a_number = Reading::Measured(f32::NAN.to_bits());
+    for (sludge_volume_index, flow, bod, number) in [
+        (180, 5_000, case_a().bod, SHEET),
+        (181, 5_000, case_a().bod, BULKING),
+        (200, 5_000, not_a_number, BULKING),
+        (181, 0, not_a_number, PLANT_DATA),
+        (201, 5_000, not_a_number, PLANT_DATA),
+        (180, 5_000, not_a_number, NO_NUMBER),
+    ] {
+        let request = Request {
+            sludge_volume_index,
+            flow,
+            bod,
+            ..case_a()
+        };
+        let mut page = [UNTOUCHED; PAGE_LENGTH];
+        assert_eq!(choose(&request.to_choose(), &mut page).0, number);
+        assert_eq!(census(&request.to_choose(), &mut page).0, number);
         let bytes = request.to_examine(CASE_A_CANDIDATE);
         assert_eq!(explain(&bytes, &mut page).0, number);
     }
@@ -511,7 +537,7 @@ fn numbers_rise_and_have_words() {
     assert_eq!(word(NO_DESIGN), Some("no design"));
     assert_eq!(word(99), None);
     let refusals = ALL.iter().filter(|known| is_refusal(known.number));
-    assert_eq!(refusals.count(), 15);
+    assert_eq!(refusals.count(), 16);
 }
 
 #[test]

@@ -1,11 +1,11 @@
-//! Which key a refusal of 1 to 4 or 14 is due to. The number is the library's:
+//! Which key a refusal of 1 to 4, 14 or 17 is due to. The number is the library's:
 //! here the key is only looked for, and nothing is said where the finding is
 //! another number.
 
 use crate::consent;
-use crate::keys::{Field, Key, Range, HEADS, KEYS};
+use crate::keys::{Field, Key, Range, HEADS, KEYS, MOST_BULKING, MOST_INDEX};
 use crate::plant_file::PlantFile;
-use library::number::{COD_RATIO, NO_NUMBER, PLANT_DATA, READING_RANGE, TERMS};
+use library::number::{BULKING, COD_RATIO, NO_NUMBER, PLANT_DATA, READING_RANGE, TERMS};
 use library::{Reading, Request};
 
 /// What a reading comes to.
@@ -30,12 +30,8 @@ const PER_HEAD: [[u32; 3]; 5] = [
 pub fn lines(number: u32, file: &PlantFile) -> Vec<String> {
     let request = &file.request;
     let outside = outside(request);
-    if number == PLANT_DATA || !outside.is_empty() {
-        return if number == PLANT_DATA {
-            outside
-        } else {
-            Vec::new()
-        };
+    if let Some(found) = due(request, &outside) {
+        return if found == number { outside } else { Vec::new() };
     }
     let results = results(request);
     if let Some((found, line)) = results.iter().find_map(Outcome::fault) {
@@ -50,6 +46,17 @@ pub fn lines(number: u32, file: &PlantFile) -> Vec<String> {
         COD_RATIO => ratio,
         TERMS if ratio.is_empty() => consent::faults(file),
         _ => Vec::new(),
+    }
+}
+
+/// The refusal that figures outside their ranges are due: 17 where it is the
+/// index alone, and not past 200.
+fn due(request: &Request, outside: &[String]) -> Option<u32> {
+    let bulking = (MOST_INDEX + 1..=MOST_BULKING).contains(&request.sludge_volume_index);
+    match outside.len() {
+        0 => None,
+        1 if bulking => Some(BULKING),
+        _ => Some(PLANT_DATA),
     }
 }
 

@@ -127,6 +127,11 @@ const PROCESS_WORDS: &[&str] = &[
 
 /// Range of the design temperature and of the aeration temperature.
 pub const DEGREES: (u32, u32, &str) = (10, 20, "degrees Celsius");
+/// Largest sludge volume index that is not bulking sludge, l/kg.
+pub const MOST_INDEX: u32 = 180;
+/// Above it, up to this one, the refusal is 17; beyond it is 1.
+pub const MOST_BULKING: u32 = 200;
+const INDEX: (u32, u32, &str) = (50, MOST_INDEX, "l/kg");
 const NITRATE: (u32, u32, &str) = (1_000, 50_000, "mg/m3");
 const PEAK: (u32, u32, &str) = (100, 300, "hundredths");
 /// Largest dose of external carbon, mg/m3 as COD.
@@ -155,7 +160,7 @@ pub const KEYS: [Key; 25] = [
     whole("wet-weather-flow", "wet weather flow", (1, 50_000, "m3/h"), |r| &mut r.wet_weather_flow),
     whole("design-temperature", "design temperature", DEGREES, |r| &mut r.design_temperature),
     whole("aeration-temperature", "aeration temperature", DEGREES, |r| &mut r.aeration_temperature),
-    whole("sludge-volume-index", "sludge volume index", (50, 200, "l/kg"), |r| &mut r.sludge_volume_index),
+    whole("sludge-volume-index", "sludge volume index", INDEX, |r| &mut r.sludge_volume_index),
     whole("nitrate-target", "nitrate target", NITRATE, |r| &mut r.nitrate_target),
     whole("phosphorus-target", "phosphorus target", (0, 100_000, "mg/m3"), |r| &mut r.phosphorus_target),
     whole("carbon-peak", "carbon peak factor", PEAK, |r| &mut r.carbon_peak),

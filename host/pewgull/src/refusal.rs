@@ -3,7 +3,7 @@
 use crate::census;
 use crate::culprit;
 use crate::explanation::{self, LEAST_SOLIDS, MOST_SLUDGE_VOLUME};
-use crate::keys::MOST_DOSE;
+use crate::keys::{MOST_DOSE, MOST_INDEX};
 use crate::plant_file::PlantFile;
 use crate::season;
 use crate::values::filled;
@@ -19,6 +19,9 @@ pub fn words(number: u32, file: &PlantFile, candidate: Option<Candidate>) -> Str
         NO_NUMBER => "the value of a reading is no number, or below zero".to_string(),
         READING_RANGE => "a head count or the result of a reading is outside its range".to_string(),
         COD_RATIO => "five times the COD is more than eleven times the BOD".to_string(),
+        BULKING => format!(
+            "the sludge volume index is above {MOST_INDEX} l/kg, a fault to cure before building"
+        ),
         NO_DESIGN => no_design(request),
         OFF_GRID => off_grid(request.tank, candidate),
         TERMS => "a term of the consent is not valid, or there are too many".to_string(),

@@ -215,13 +215,42 @@ fn every_culprit_among_plant_figures_is_named() {
     }
 }
 
+/// Both limits of the index are told by the one in force.
+#[test]
+fn bulking_sludge_is_named() {
+    for (index, number, word) in [
+        (181, 17, "bulking sludge"),
+        (200, 17, "bulking sludge"),
+        (201, 1, "plant data"),
+    ] {
+        let line = format!("sludge-volume-index {index}");
+        let path = file("bulking.plant", with("sludge-volume-index", &line));
+        for words in [
+            &["choose", &path][..],
+            &["census", &path],
+            &["examine", &path, "300", "75", "20"],
+            &["explain", &path, "300", "75", "20"],
+        ] {
+            let ran = pewgull(words);
+            assert_eq!(
+                (ran.status, ran.out),
+                (1, format!("refused {number}\n")),
+                "{words:?}"
+            );
+            assert!(ran.err.contains(&format!("refused {number} ({word})")));
+            let culprit = format!("\n  {line}: expected 50..180 l/kg\n");
+            assert!(ran.err.contains(&culprit), "{}", ran.err);
+        }
+    }
+}
+
 #[test]
 fn both_sides_of_refusal_8_are_told() {
-    let few = with("sludge-volume-index", "sludge-volume-index 200").replace("scraper", "suction");
+    let few = with("sludge-volume-index", "sludge-volume-index 180").replace("scraper", "suction");
     let ran = pewgull(&["examine", &file("few.plant", few), "300", "30", "20"]);
     assert_eq!(ran.out, "refused 8\n");
     assert!(
-        ran.err.contains("solids 726 g/m3, at least 1000 g/m3"),
+        ran.err.contains("solids 807 g/m3, at least 1000 g/m3"),
         "{}",
         ran.err
     );

@@ -8,7 +8,9 @@ use library::sheet::{candidates, GRID, LINES};
 use library::{TankFlow, COUNTED, LEAST_DAYS, MOST_BOD, MOST_DAYS, MOST_FLOW, MOST_TERMS};
 use pewgull::arguments::COMMANDS;
 use pewgull::census::label;
-use pewgull::keys::{Field, HEADS, KEYS, TERM_TARGET, TERM_TEMPERATURE, TERM_WORDS};
+use pewgull::keys::{
+    Field, HEADS, KEYS, MOST_BULKING, MOST_INDEX, TERM_TARGET, TERM_TEMPERATURE, TERM_WORDS,
+};
 use std::fs;
 
 fn document(name: &str) -> String {
@@ -215,6 +217,16 @@ fn census() {
         has(&header, "the header", &count);
     }
     shows("census examples/weak-sewage-no-design.plant");
+}
+
+#[test]
+fn bulking_sludge() {
+    shows("choose examples/bulking-sludge.plant");
+    let limit = format!("above {MOST_INDEX} l/kg");
+    has(&document("README.md"), "README.md", &limit);
+    let gets = format!("{}..{MOST_BULKING} gets 17", MOST_INDEX + 1);
+    let header = plain(&document("include/pewgull.h"));
+    has(&header, "the header", &gets);
 }
 
 /// The works short of BOD, without a dose and with one.

@@ -9,7 +9,8 @@ use std::path::Path;
 use std::process::Command;
 
 /// Each file, its answer's first lines, and its exit status.
-const ANSWERS: [(&str, &str, i32); 11] = [
+const ANSWERS: [(&str, &str, i32); 12] = [
+    ("bulking-sludge.plant", "refused 17\n", 1),
     (
         "case-a.plant",
         "fraction 300\nreturn 73\nthickening 21\n",

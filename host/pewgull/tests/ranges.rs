@@ -4,10 +4,10 @@
 mod common;
 
 use common::CASE_A;
-use library::number::{COD_RATIO, NO_NUMBER, PLANT_DATA, READING_RANGE, SHEET, TERMS};
+use library::number::{BULKING, COD_RATIO, NO_NUMBER, PLANT_DATA, READING_RANGE, SHEET, TERMS};
 use library::{explain, target, Candidate, Date, Reading, Request, Term, Terms};
 use library::{FIGURES_LENGTH, MOST_TERMS, TARGET_PAGE};
-use pewgull::keys::{Field, Range, HEADS, KEYS, TERM_TARGET, TERM_TEMPERATURE};
+use pewgull::keys::{Field, Range, HEADS, KEYS, MOST_BULKING, TERM_TARGET, TERM_TEMPERATURE};
 use pewgull::plant_file::{self, PlantFile};
 use pewgull::{consent, culprit};
 
@@ -37,14 +37,15 @@ fn plant_ranges() {
         let Field::Whole(Range { least, most, .. }, at) = key.field else {
             continue;
         };
-        assert_ne!(number(&with_whole(at, least)), PLANT_DATA, "{}", key.name);
-        assert_ne!(number(&with_whole(at, most)), PLANT_DATA, "{}", key.name);
-        assert_eq!(
-            number(&with_whole(at, most + 1)),
-            PLANT_DATA,
-            "{}",
-            key.name
-        );
+        for inside in [least, most] {
+            let got = number(&with_whole(at, inside));
+            assert!(![PLANT_DATA, BULKING].contains(&got), "{}", key.name);
+        }
+        let above = match key.name {
+            "sludge-volume-index" => BULKING,
+            _ => PLANT_DATA,
+        };
+        assert_eq!(number(&with_whole(at, most + 1)), above, "{}", key.name);
         if least > 0 {
             assert_eq!(
                 number(&with_whole(at, least - 1)),
@@ -54,6 +55,23 @@ fn plant_ranges() {
             );
         }
     }
+}
+
+/// From 181 to 200 the index gets 17, then 1; with another figure outside, 1.
+#[test]
+fn bulking_ends_where_the_library_ends_it() {
+    let index = |value: u32| Request {
+        sludge_volume_index: value,
+        ..case_a()
+    };
+    assert_eq!(number(&index(MOST_BULKING)), BULKING);
+    assert_eq!(number(&index(MOST_BULKING + 1)), PLANT_DATA);
+    let both = Request {
+        load: 0,
+        ..index(MOST_BULKING)
+    };
+    assert_eq!(number(&both), PLANT_DATA);
+    assert_eq!(culprit::lines(PLANT_DATA, &file(both)).len(), 2);
 }
 
 #[test]
@@ -183,6 +201,9 @@ fn readings() -> Vec<fn(&mut Request) -> &mut Reading> {
 fn odd_request(random: &mut Random) -> Request {
     let mut request = case_a();
     let key = &KEYS[random.next() as usize % KEYS.len()];
+    if random.next() % 16 == 0 {
+        request.sludge_volume_index = random.pick(&[180, 181, 200, 201]);
+    }
     match &key.field {
         Field::Whole(range, at) if random.next() % 4 == 0 => {
             let edges = [
@@ -246,12 +267,19 @@ fn file(request: Request) -> PlantFile {
     }
 }
 
-/// A refusal of 1 to 4 or 14 has a culprit, and nothing else has.
+/// A refusal of 1 to 4, 14 or 17 has a culprit, and nothing else has.
 #[test]
 fn culprits_are_found_where_the_library_refuses() {
     let mut random = Random(131);
-    let known = [PLANT_DATA, NO_NUMBER, READING_RANGE, COD_RATIO, TERMS];
-    let mut counts = [0; 6];
+    let known = [
+        PLANT_DATA,
+        NO_NUMBER,
+        READING_RANGE,
+        COD_RATIO,
+        TERMS,
+        BULKING,
+    ];
+    let mut counts = [0; 7];
     for _ in 0..50_000 {
         let request = odd_request(&mut random);
         let due = number(&request);
@@ -263,7 +291,7 @@ fn culprits_are_found_where_the_library_refuses() {
                 "asked for {asked}, due {due}: {request:?}"
             );
         }
-        counts[known.iter().position(|asked| *asked == due).unwrap_or(5)] += 1;
+        counts[known.iter().position(|asked| *asked == due).unwrap_or(6)] += 1;
     }
     assert!(counts.iter().all(|count| *count > 500), "{counts:?}");
 }

@@ -78,7 +78,7 @@ pub fn choose(plant: &Plant, readings: &[Reading; 5]) -> Answer {
 pub const COUNTED: usize = 32;
 
 /// How many candidates of the grid are answered with each number, 0 for a
-/// sheet, or the refusal 1 to 4 or 14.
+/// sheet, or the refusal 1, 17, 2 to 4 or 14.
 pub fn census(plant: &Plant, readings: &[Reading; 5]) -> Result<[u64; COUNTED], u8> {
     let mut counts = [0; COUNTED];
     sweep(plant, readings, |examined| {

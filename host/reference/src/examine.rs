@@ -143,8 +143,8 @@ pub fn design(
     })
 }
 
-/// Acceptance, then the given candidate: refusals 1 to 4, 14, 6, 7, 15, 16 and
-/// 8 to 10 in this order, else the sheet.
+/// Acceptance, then the given candidate: refusals 1, 17, 2 to 4, 14, 6, 7, 15,
+/// 16 and 8 to 10 in this order, else the sheet.
 pub fn examine(plant: &Plant, readings: &[Reading; 5], candidate: Candidate) -> Answer {
     let accepted = match accept(plant, readings) {
         Ok(accepted) => accepted,

@@ -99,4 +99,9 @@ impl Plant {
             && (3_000..=10_000).contains(&self.site_depth)
             && self.dose <= 500_000
     }
+
+    /// Whether the sludge bulks: a fault to be cured before building.
+    pub fn is_bulking(&self) -> bool {
+        self.sludge_volume_index > 180
+    }
 }

@@ -149,6 +149,9 @@ pub fn accept(plant: &Plant, readings: &[Reading; 5]) -> Result<[u64; 5], u8> {
     if !plant.in_range() {
         return Err(refusal::PLANT_DATA);
     }
+    if plant.is_bulking() {
+        return Err(refusal::BULKING);
+    }
     let mut results = [0; 5];
     for place in 0..5 {
         results[place] = convert(plant, ORDER[place], readings[place])?;

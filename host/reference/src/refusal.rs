@@ -16,3 +16,4 @@ pub const DAY_VALUE: u8 = 13;
 pub const CONSENT: u8 = 14;
 pub const TERM_NITRIFICATION: u8 = 15;
 pub const TERM_NITRATE: u8 = 16;
+pub const BULKING: u8 = 17;

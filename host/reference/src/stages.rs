@@ -210,7 +210,7 @@ pub struct Stages {
     pub settling: Settling,
 }
 
-/// The stages of a candidate, or the refusal 1 to 4, 14 or 6.
+/// The stages of a candidate, or the refusal 1, 17, 2 to 4, 14 or 6.
 pub fn explain(plant: &Plant, readings: &[Reading; 5], candidate: Candidate) -> Result<Stages, u8> {
     let accepted = accept(plant, readings)?;
     if !on_grid(plant.tank_flow, candidate) {

@@ -227,7 +227,8 @@ fn cramped(random: &mut Random) -> Request {
         0 => plant
             .with(SITE_DEPTH, 3_000)
             .with(REMOVAL, 1)
-            .with(SLUDGE_VOLUME_INDEX, random.within(180, 200)),
+            .with(TANK_FLOW, 1)
+            .with(SLUDGE_VOLUME_INDEX, random.within(160, MOST_INDEX)),
         1 => with_tight_site(random, plant),
         _ => plant
             .with(SITE_SURFACE, random.spread(1, 100_000))

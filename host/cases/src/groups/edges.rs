@@ -32,7 +32,7 @@ pub fn plant_ranges(cases: &mut Collection) {
             _ => "plant edge",
         };
         cases.examine(kind, plant.with(place, least));
-        cases.examine(kind, plant.with(place, most));
+        cases.examine(kind, plant.with(place, largest_accepted(place, most)));
         cases.examine("plant past edge", plant.with(place, most + 1));
         if place % 2 == 1 {
             cases.choose("plant past edge, choose", plant.with(place, most + 1));

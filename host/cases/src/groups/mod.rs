@@ -1,5 +1,6 @@
 //! The groups of stored cases.
 
+mod bulking;
 mod choices;
 mod degrees;
 mod dose;
@@ -66,5 +67,7 @@ pub fn all() -> Collection {
     term_choices::no_design(&mut cases, &mut random);
     term_choices::four(&mut cases, &mut random);
     term_choices::plain(&mut cases, &mut random);
+    bulking::index(&mut cases);
+    bulking::order(&mut cases);
     cases
 }

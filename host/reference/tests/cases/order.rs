@@ -8,7 +8,7 @@ const HUGE: Reading = Reading::Measured(1e30);
 
 fn number(plant: &Plant, readings: &[Reading; 5], candidate: Candidate) -> u8 {
     let examined = examine(plant, readings, candidate);
-    if let number @ (1..=4 | 14) = examined.number() {
+    if let number @ (1..=4 | 14 | 17) = examined.number() {
         assert_eq!(choose(plant, readings), examined);
         assert_eq!(accept(plant, readings), Err(number));
     }
@@ -21,6 +21,23 @@ fn plant_data_before_readings() {
     plant.site_depth = 2_999;
     assert_eq!(number(&plant, &[NAN; 5], candidate(0, 0, 0)), 1);
     assert_eq!(number(&plant, &[HUGE; 5], candidate(0, 0, 0)), 1);
+}
+
+/// Every other fault beside a bulking sludge: 17 after 1, before the rest.
+#[test]
+fn bulking_between_plant_data_and_readings() {
+    let mut plant = plant_a();
+    plant.sludge_volume_index = 181;
+    plant.consent.count = 5;
+    let off = candidate(0, 0, 0);
+    let high = measured([200.0, 450.0, 150.0, 46.0, 8.0]);
+    for readings in [[NAN; 5], [HUGE; 5], high, readings_a()] {
+        assert_eq!(number(&plant, &readings, off), 17);
+    }
+    plant.site_depth = 2_999;
+    for readings in [[NAN; 5], [HUGE; 5], high, readings_a()] {
+        assert_eq!(number(&plant, &readings, off), 1);
+    }
 }
 
 #[test]
@@ -126,11 +143,11 @@ fn limits_of_solids() {
     assert!(!settling::solids_allowed(999, 600));
     assert!(!settling::solids_allowed(1_000, 601));
     let mut plant = plant_a();
-    plant.sludge_volume_index = 200;
+    plant.sludge_volume_index = 180;
     plant.removal = Removal::Suction;
-    // R is 3,147: E is 991 at 46 and 1,006 at 47.
-    assert_eq!(number(&plant, &readings_a(), candidate(300, 46, 20)), 8);
-    assert_eq!(number(&plant, &readings_a(), candidate(300, 47, 20)), 0);
+    // R is 3,497: E is 999 at 40 and 1,016 at 41.
+    assert_eq!(number(&plant, &readings_a(), candidate(300, 40, 20)), 8);
+    assert_eq!(number(&plant, &readings_a(), candidate(300, 41, 20)), 0);
 }
 
 #[test]
@@ -144,12 +161,14 @@ fn nothing_permitted() {
     assert_eq!(at(&plant), 0);
     plant.site_surface = 374;
     assert_eq!(at(&plant), 5);
-    // The least depth with E from 1,000 on is 3,155 mm, at 47 and 20.
+    // The least depth with E from 1,000 on is 3,508 mm, at 37 and 24: E is
+    // 1,003, V 181 and q 2,000; 500 + 1,673 + 447 + 888.
     let mut plant = plant_a();
-    plant.sludge_volume_index = 200;
+    plant.sludge_volume_index = 180;
+    plant.tank_flow = TankFlow::Vertical;
     plant.removal = Removal::Suction;
-    plant.site_depth = 3_155;
+    plant.site_depth = 3_508;
     assert_eq!(at(&plant), 0);
-    plant.site_depth = 3_154;
+    plant.site_depth = 3_507;
     assert_eq!(at(&plant), 5);
 }

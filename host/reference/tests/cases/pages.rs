@@ -19,7 +19,7 @@ fn answers() -> [Answer; 4] {
 
 #[test]
 fn refused_listing() {
-    for number in (1..=10).chain(14..=16) {
+    for number in (1..=10).chain(14..=17) {
         let text = format!("refused {number}\n");
         assert_eq!(listing(&Answer::Refused(number)), text.as_bytes());
     }

@@ -31,7 +31,7 @@ fn plant(generator: &mut Generator) -> Plant {
     plant.wet_weather_flow = generator.within(1, 50_000);
     plant.design_temperature = generator.within(10, 20);
     plant.aeration_temperature = generator.within(10, 20);
-    plant.sludge_volume_index = generator.within(50, 200);
+    plant.sludge_volume_index = generator.within(50, 180);
     plant.nitrate_target = generator.within(1_000, 50_000);
     plant.phosphorus_target = generator.within(0, 5_000);
     plant.carbon_peak_factor = generator.within(100, 300);

@@ -3,15 +3,15 @@
 use crate::common::*;
 use reference::*;
 
-type Field = fn(&mut Plant) -> &mut u32;
+pub type Field = fn(&mut Plant) -> &mut u32;
 
-const FIELDS: [(Field, u32, u32); 14] = [
+/// All but the sludge volume index, which bulks before its range ends.
+pub const FIELDS: [(Field, u32, u32); 13] = [
     (|plant| &mut plant.bod_load, 1, 100_000),
     (|plant| &mut plant.daily_flow, 1, 200_000),
     (|plant| &mut plant.wet_weather_flow, 1, 50_000),
     (|plant| &mut plant.design_temperature, 10, 20),
     (|plant| &mut plant.aeration_temperature, 10, 20),
-    (|plant| &mut plant.sludge_volume_index, 50, 200),
     (|plant| &mut plant.nitrate_target, 1_000, 50_000),
     (|plant| &mut plant.phosphorus_target, 0, 100_000),
     (|plant| &mut plant.carbon_peak_factor, 100, 300),
