@@ -89,6 +89,7 @@
  *   recirculation  recirculation ratio, thousandths
  *   oxygen         hourly oxygen uptake, g/h
  *   transfer       oxygen transfer of the aeration, g/h
+ *                  (of an intermittent plant while the blowers run)
  */
 #ifndef PEWGULL_H
 #define PEWGULL_H

@@ -1,12 +1,12 @@
 -- Limits of the oxygen figures, and that denitrification saves no more oxygen than carbon takes where the nitrate is
 -- covered: 29 · K ≤ 5,600 for every K up to 193. Assumes nothing.
-use Prim.Native.Nat.{ℕ, _+_, _*_, _≤_}
+use Prim.Native.Nat.{ℕ, _+_, _-_, _*_, _≤_}
 use native.Mathlib.Nat.{mul-le-mul, mul-le-mul-left, le-trans}
 use native.Mathlib.Omega.{arith}
 use Rattle.rules.specs.Rounding.{up}
 use Rattle.rules.specs.AerationSteps.{aerationUptake, carbonOxygen, denitrifiedByBod, savedOxygen}
 use Rattle.rules.specs.Limits.{mostCapacity}
-use Rattle.rules.specs.Ranges.{GridFraction, PlantRanges}
+use Rattle.rules.specs.Ranges.{Between, GridFraction, PlantRanges}
 use Rattle.rules.specs.ReactorSteps.{reactorOf}
 use Rattle.rules.specs.declared.Plant.{Plant}
 use Rattle.rules.specs.declared.Concentrations.{Concentrations}
@@ -23,6 +23,18 @@ uptake-most u = omega (arith, up-le (15000 * u) (100000 + 17 * u) 883 (omega ari
 -- the product that carbon's oxygen rounds
 pub carbon-product : (flow bod uptake : ℕ) → flow ≤ 200_000 → bod ≤ 2_000_000 → uptake ≤ 1_443 → flow * bod * uptake ≤ 577_200_000_000_000
 carbon-product flow bod uptake hf hb hu = mul-le-mul (mul-le-mul hf hb) hu
+
+-- the product that the transfer with pauses rounds, and what it is divided by
+pub paused-product : (saturation hourly : ℕ) → saturation ≤ 15_000 → hourly ≤ 126_000_000 → 1000 * saturation * hourly ≤ 1_890_000_000_000_000
+paused-product saturation hourly hs hh = omega (arith, mul-le-mul hs hh)
+
+pub paused-divisor : (saturation fraction : ℕ) → Between 6_000 15_000 saturation → GridFraction fraction → Between 2_000_000 10_400_000 ((saturation - 2_000) * (1000 - fraction))
+paused-divisor saturation fraction s f =
+    let leastDeficit : 4_000 ≤ saturation - 2_000 = omega arith in
+    let mostDeficit : saturation - 2_000 ≤ 13_000 = omega arith in
+    let leastPart : 500 ≤ 1000 - fraction = omega arith in
+    let mostPart : 1000 - fraction ≤ 800 = omega arith in
+    record { least = mul-le-mul leastDeficit leastPart; most = mul-le-mul mostDeficit mostPart }
 
 -- where the tank's BOD covers a nitrate, the oxygen saved on it is at most carbon's, so that nothing is cut off
 saved-at-most : (flow bod uptake removes d : ℕ) → 560 ≤ uptake → removes ≤ mostCapacity * bod → 1000 * d ≤ removes → savedOxygen flow d ≤ carbonOxygen flow bod uptake

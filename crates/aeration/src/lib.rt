@@ -8,8 +8,8 @@ ghost use mathlib.Core.Path.{_≡_};
 ghost use Prim.Native.Nat.{_-_, _*_, _≤_};
 ghost use Rattle.rules.specs.Rounding.{up};
 ghost use Rattle.rules.specs.Limits.{mostNitrogen};
-ghost use Rattle.rules.specs.AerationSteps.{aerationUptake, carbonOxygen, nitrificationOxygen, denitrifiedByBod, savedOxygen, hourlyOxygen, oxygenTransfer, recirculation, aerationOf};
-ghost use Rattle.rules.specs.Ranges.{Between, PlantRanges, ConcentrationRanges, ReactorBounds};
+ghost use Rattle.rules.specs.AerationSteps.{aerationUptake, carbonOxygen, nitrificationOxygen, denitrifiedByBod, savedOxygen, hourlyOxygen, oxygenTransfer, pausedTransfer, transferOf, recirculation, aerationOf};
+ghost use Rattle.rules.specs.Ranges.{Between, GridFraction, PlantRanges, ConcentrationRanges, ReactorBounds};
 
 // Specific oxygen uptake for aeration, g/kg.
 fn aeration_uptake(corrected: u64) -> u64
@@ -70,6 +70,30 @@ fn oxygen_transfer(saturation: u64, hourly: u64) -> u64
     rounding::round_up(saturation * hourly, saturation - 2_000)
 }
 
+// The same with blowers that stand still for a part of each cycle.
+fn paused_transfer(saturation: u64, fraction: u64, hourly: u64) -> u64
+    requires { ⌜ Between 6_000 15_000 saturation × GridFraction fraction × (hourly ≤ 126_000_000) ⌝ }
+    ensures { λ r. ⌜ r ≡ pausedTransfer saturation fraction hourly ⌝ }
+{
+    rounding::round_up(
+        1000 * saturation * hourly,
+        (saturation - 2_000) * (1000 - fraction),
+    )
+}
+
+// Oxygen transfer of a process: the intermittent one pauses.
+fn transfer(process: Process, saturation: u64, fraction: u64, hourly: u64) -> u64
+    requires { ⌜ Between 6_000 15_000 saturation × GridFraction fraction × (hourly ≤ 126_000_000) ⌝ }
+    ensures { λ r. ⌜ r ≡ transferOf process saturation fraction hourly ⌝ }
+{
+    match process {
+        Process::PreAnoxic => oxygen_transfer(saturation, hourly),
+        Process::Simultaneous => oxygen_transfer(saturation, hourly),
+        Process::Intermittent => paused_transfer(saturation, fraction, hourly),
+        Process::StepFeed(_) => oxygen_transfer(saturation, hourly),
+    }
+}
+
 // What a pre-anoxic reactor returns beyond its own flow, thousandths.
 fn returned_flow(nitrified: u64, target: u64) -> u64
     requires { ⌜ (nitrified ≤ mostNitrogen) × Between 1_000 50_000 target ⌝ }
@@ -119,7 +143,7 @@ pub fn aeration(plant: Plant, concentrations: Concentrations, reactor: Reactor) 
     let net = net_carbon(flow, bod, uptake, own);
     let nitrification = nitrification_oxygen(flow, nitrified);
     let oxygen = hourly_oxygen(net, nitrification, carbon_peak, nitrogen_peak);
-    let transfer = oxygen_transfer(saturation, oxygen);
+    let transfer = transfer(process, saturation, reactor.fraction, oxygen);
     let recirculation = recirculated(process, nitrified, target);
     Aeration {
         recirculation,

@@ -4,3 +4,4 @@ pub mod WrongExaminers
 pub mod Refuted
 pub mod WrongDoses
 pub mod WrongTerms
+pub mod WrongPauses

@@ -23,6 +23,9 @@ pub use Rattle.examining.proofs.WrongDoses.{WrongDoses, wrong-doses}
 -- target, the first term in force: fields of two records
 pub use Rattle.examining.proofs.WrongTerms.{WrongTerms, wrong-terms}
 pub use Rattle.consents.proofs.Refuted.{WrongDays, wrong-days}
+-- pauses in aeration: the rounded transfer divided again, 1000 − f outside the rounding, no pauses, pauses in every process, the
+-- fraction of another candidate or of a term, the oxygen raised too: fields of one record
+pub use Rattle.examining.proofs.WrongPauses.{WrongPauses, wrong-pauses}
 -- every candidate explained as off the grid, or by the figures of one; no rule found broken where one is; the dose left out
 -- of the right column, or its parts exchanged; the design's columns for a term's
 pub use Rattle.explaining.proofs.Refuted.{always-off-grid, one-candidate-explained, verdict-always-kept, dosed-columns, term-columns}

@@ -105,7 +105,10 @@ unfolding
     AerationSteps.savedOxygen
     AerationSteps.hourlyOxygen
     AerationSteps.oxygenTransfer
+    AerationSteps.pausedTransfer
+    AerationSteps.transferOf
     AerationSteps.recirculation
+    AerationSteps.aerationBy
     AerationSteps.aerationSaving
     AerationSteps.aerationOf
     TermSteps.aerobicShare

@@ -17,7 +17,7 @@ use Rattle.rules.specs.Accepting.{valuesOf, readingsRules, bulkingRule, 
 use Rattle.rules.specs.AgeNitrate.{denitrified, covered, onGrid}
 use Rattle.rules.specs.ReactorSteps.{sludgeProduction, reactorOf}
 use Rattle.rules.specs.SettlingSteps.{settlingOf}
-use Rattle.rules.specs.AerationSteps.{aerationSaving, aerationOf}
+use Rattle.rules.specs.AerationSteps.{aerationBy, aerationSaving, aerationOf}
 use Rattle.rules.specs.TermSteps.{termShare, nitrifies, termFraction, termRemoves, termCovered}
 use Rattle.rules.specs.Examining.{totalOf, sheetFrom, sheetOf, tankRules, gridRule, candidateRules, permitted, examine, examinationRules}
 use Rattle.rules.specs.Choosing.{candidateOf, candidateTotal, NotBefore, ChosenAccepted, Chosen}
@@ -129,7 +129,7 @@ module _ (p : Plant) (more fewer : Consent) (h : OneMore p more fewer) where
       }
 
   same : SameAnswers underFewer (withConsent more p)
-  unfolding underFewer withConsent sheetOf sheetFrom totalOf reactorOf sludgeProduction settlingOf aerationOf aerationSaving
+  unfolding underFewer withConsent sheetOf sheetFrom totalOf reactorOf sludgeProduction settlingOf aerationOf aerationSaving aerationBy
   same = same-answers underFewer (withConsent more p) data-rules candidate-rules (λ x y. refl)
 
   not-before : (x : Concentrations) (d y : Candidate) → NotBefore (withConsent more p) x d y ↔ NotBefore (withConsent fewer p) x d y
@@ -156,7 +156,7 @@ module _ (p : Plant) (more fewer : Consent) (h : OneMore p more fewer) where
           record { member = e .member; allowed = e .allowed; figures = e .figures; rivals = λ y g t. not-before x (candidateOf s) y .1 (e .rivals y g t) }
 
   examined : (r : Readings) (y : Candidate) → examine (withConsent more p) r y ≡ examine (withConsent fewer p) r y
-  unfolding underFewer withConsent valuesOf examinationRules sheetOf sheetFrom totalOf reactorOf sludgeProduction settlingOf aerationOf aerationSaving
+  unfolding underFewer withConsent valuesOf examinationRules sheetOf sheetFrom totalOf reactorOf sludgeProduction settlingOf aerationOf aerationSaving aerationBy
   examined r y = same .answer r y ∙ sym (examine-by-rules (withConsent fewer p) r y)
 
 -- What two consents answer alike, for all readings and candidates.

@@ -15,7 +15,7 @@ use Rattle.rules.specs.Accepting.{valuesOf, rulesAfterFigures, dataRules
 use Rattle.rules.specs.AgeNitrate.{removedByDose, covered}
 use Rattle.rules.specs.ReactorSteps.{sludgeProduction, reactorOf}
 use Rattle.rules.specs.SettlingSteps.{settlingOf}
-use Rattle.rules.specs.AerationSteps.{aerationSaving, aerationOf}
+use Rattle.rules.specs.AerationSteps.{aerationBy, aerationSaving, aerationOf}
 use Rattle.rules.specs.TermSteps.{termShare, nitrifies, termFraction, termRemoves, termDenitrified, termCovered}
 use Rattle.rules.specs.Examining.{totalOf, sheetFrom, sheetOf, permitted}
 use Rattle.rules.specs.Answers.{sheetFigures}
@@ -88,7 +88,7 @@ larger-dose p x y m n h t =
 pub sheet-but-oxygen :
     (p : Plant) (x : Concentrations) (y : Candidate) (n : ℕ)
     → take 13 (sheetFigures (sheetOf (withDose n p) x y)) ≡ take 13 (sheetFigures (sheetOf p x y))
-unfolding withDose sheetFigures sheetOf sheetFrom totalOf reactorOf sludgeProduction settlingOf aerationOf aerationSaving
+unfolding withDose sheetFigures sheetOf sheetFrom totalOf reactorOf sludgeProduction settlingOf aerationOf aerationSaving aerationBy
 sheet-but-oxygen p x y n = refl
 
 -- the total does not know the dose

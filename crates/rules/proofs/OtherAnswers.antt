@@ -19,6 +19,7 @@ use Rattle.rules.specs.declared.Acceptance.{Acceptance}
 use Rattle.rules.specs.declared.Answer.{Answer}
 use Rattle.rules.proofs.RuleLists.{all-kept-verdict, verdict-append}
 use Rattle.rules.proofs.Examined.{examine-by-rules}
+use Rattle.rules.proofs.ChosenOnce.{neither-before}
 
 -- two tests that hold together are one
 same-test : (a b : Bool) → T a ↔ T b → a ≡ b
@@ -89,3 +90,17 @@ module _
   pub same-answers : SameAnswers s p
   same-answers =
       record { acceptance = same-accepted; allowed = same-permitted; sheet = sheets; answer = same-answer; choice = same-choice }
+
+-- two answers that keep demand 3 over the same other steps are one
+pub chosen-with-once : (s : Calculation) (p : Plant) (r : Readings) (a b : Answer) → ChosenWith s p r a → ChosenWith s p r b → a ≡ b
+chosen-with-once s p r a b = go a b (acceptWith s p r)
+  where
+    go : (a b : Answer) (o : Acceptance) → ChosenAcceptedWith s p a o → ChosenAcceptedWith s p b o → a ≡ b
+    go a b (Acceptance.Refused n) e f = e ∙ sym f
+    go (Answer.Designed d) (Answer.Designed t) (Acceptance.Accepted x) e f =
+        let one : candidateOf d ≡ candidateOf t =
+        neither-before p x (candidateOf d) (candidateOf t) (e .rivals (candidateOf t) (f .member) (f .allowed)) (f .rivals (candidateOf d) (e .member) (e .allowed)) in
+        ap Answer.Designed (e .figures ∙ (ap (s .sheet p x) one ∙ sym (f .figures)))
+    go (Answer.Designed d) (Answer.Refused n) (Acceptance.Accepted x) e f = absurd (f .1 (candidateOf d) (e .member) (e .allowed))
+    go (Answer.Refused n) (Answer.Designed t) (Acceptance.Accepted x) e f = absurd (e .1 (candidateOf t) (f .member) (f .allowed))
+    go (Answer.Refused n) (Answer.Refused m) (Acceptance.Accepted x) e f = ap Answer.Refused (e .0 ∙ sym (f .0))

@@ -6,7 +6,7 @@ use Rattle.rules.specs.PlantData.{figuresWithoutDose}
 use Rattle.rules.specs.Accepting.{valuesOf}
 use Rattle.rules.specs.ReactorSteps.{sludgeProduction, reactorOf}
 use Rattle.rules.specs.SettlingSteps.{settlingOf}
-use Rattle.rules.specs.AerationSteps.{aerationSaving}
+use Rattle.rules.specs.AerationSteps.{aerationBy, aerationSaving}
 use Rattle.rules.specs.TermSteps.{termShare, nitrifies, termFraction, termRemoves, termDenitrified}
 use Rattle.rules.specs.Examining.{totalOf, sheetFrom}
 use Rattle.rules.specs.Choosing.{candidateOf, candidateTotal, NotBefore}
@@ -42,6 +42,7 @@ unfolding
     sludgeProduction
     settlingOf
     aerationSaving
+    aerationBy
 withoutDose = tt
 
 -- acceptance, "permitted", sheets and what examining answers

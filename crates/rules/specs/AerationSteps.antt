@@ -1,4 +1,4 @@
--- Document 01, "Aeration and recirculation". Assumes nothing.
+-- Document 01, "Aeration and recirculation", with the pauses of document 02, item 6. Assumes nothing.
 use Prim.Native.Nat.{ℕ, _+_, _-_, _*_, max}
 use Rattle.rules.specs.Rounding.{down, up}
 use Rattle.rules.specs.AgeNitrate.{correctedAge}
@@ -38,6 +38,17 @@ hourlyOxygen net nitrification carbonPeak nitrogenPeak =
 unfoldable pub oxygenTransfer : ℕ → ℕ → ℕ
 oxygenTransfer saturation hourly = up (saturation * hourly) (saturation - 2_000)
 
+-- the same where the blowers stand still for a part f of each cycle, from Cs, f and the hourly oxygen (5-29; document 02, item 6)
+unfoldable pub pausedTransfer : ℕ → ℕ → ℕ → ℕ
+pausedTransfer saturation fraction hourly = up (1000 * saturation * hourly) ((saturation - 2_000) * (1000 - fraction))
+
+-- the oxygen transfer of a process: only the intermittent one pauses
+unfoldable pub transferOf : Process → ℕ → ℕ → ℕ → ℕ
+transferOf Process.PreAnoxic saturation fraction hourly = oxygenTransfer saturation hourly
+transferOf Process.Simultaneous saturation fraction hourly = oxygenTransfer saturation hourly
+transferOf Process.Intermittent saturation fraction hourly = pausedTransfer saturation fraction hourly
+transferOf (Process.StepFeed steps) saturation fraction hourly = oxygenTransfer saturation hourly
+
 -- recirculation, thousandths, pre-anoxic only, from W and N3 (5-19)
 unfoldable pub recirculation : Process → ℕ → ℕ → ℕ
 recirculation Process.PreAnoxic w target = up (1000 * w) target - 1000
@@ -45,9 +56,9 @@ recirculation Process.Simultaneous w target = 0
 recirculation Process.Intermittent w target = 0
 recirculation (Process.StepFeed steps) w target = 0
 
--- aeration and recirculation of a reactor that saves oxygen on this nitrate
-unfoldable pub aerationSaving : ℕ → Plant → Concentrations → Reactor → Aeration
-aerationSaving d p x reactor =
+-- aeration and recirculation of a reactor, from the nitrate that it saves oxygen on and the transfer that an hourly oxygen takes
+unfoldable pub aerationBy : (ℕ → ℕ) → ℕ → Plant → Concentrations → Reactor → Aeration
+aerationBy transfer d p x reactor =
     let u = correctedAge (reactor .age) (p .«aeration_temperature») in
     let net = carbonOxygen (p .flow) (x .bod) (aerationUptake u) - savedOxygen (p .flow) d in
     let nitrification = nitrificationOxygen (p .flow) (reactor .nitrified) in
@@ -55,8 +66,12 @@ aerationSaving d p x reactor =
     record {
       recirculation = recirculation (p .process) (reactor .nitrified) (p .«nitrate_target»);
       oxygen = hourly;
-      transfer = oxygenTransfer (p .«oxygen_saturation») hourly;
+      transfer = transfer hourly;
     }
+
+-- the same with its process's transfer, at its own fraction
+unfoldable pub aerationSaving : ℕ → Plant → Concentrations → Reactor → Aeration
+aerationSaving d p x reactor = aerationBy (transferOf (p .process) (p .«oxygen_saturation») (reactor .fraction)) d p x reactor
 
 -- the same of a reactor with its plant's dose
 unfoldable pub aerationOf : Plant → Concentrations → Reactor → Aeration

@@ -3,7 +3,7 @@
 -- 10, and numbered answers; choosing; the listing; the worked cases. From document 02 the dose, the terms of the consent
 -- with the rules 14 to 16, and bulking sludge with rule 17. Beside them: the ranges as facts, the two nitrate columns, what
 -- explains a candidate, the census of the grid, the day log with its highest two-week load, and the steps without a dose, without
--- terms and without bulking sludge.
+-- terms, without bulking sludge and without pauses in aeration.
 pub mod Rounding
 pub mod Limits
 pub mod Sums
@@ -31,6 +31,7 @@ pub mod WithoutDose
 pub mod WithoutTerms
 pub mod Census
 pub mod Bulking
+pub mod WithoutPauses
 pub mod DayLog
 pub mod DayLogOutcome
 pub mod Listing

@@ -147,6 +147,13 @@ const WANTED_BULKING: [Wanted; 4] = [
     ("17 before every other", 18, &[17]),
 ];
 
+const WANTED_PAUSES: [Wanted; 4] = [
+    ("pauses, one rounding", 8, &[0]),
+    ("pauses, ends", 3, &[0]),
+    ("no pauses, ends", 8, &[0]),
+    ("pauses, choose", 5, &[0]),
+];
+
 const WANTED_PAGES: [Wanted; 5] = [
     ("exact page", 8, &[0, 1, 5, 9, 10]),
     ("page one byte short", 8, &[11]),
@@ -191,6 +198,7 @@ impl Summary {
             .iter()
             .chain(&WANTED_TERMS)
             .chain(&WANTED_BULKING)
+            .chain(&WANTED_PAUSES)
             .chain(&WANTED_PAGES);
         for (kind, least, allowed) in wanted {
             let found = self.kinds.get(kind).unwrap_or(&empty);

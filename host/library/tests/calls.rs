@@ -6,8 +6,10 @@ use common::{case_a, CASE_A_CANDIDATE, CASE_A_LISTING};
 use library::number::*;
 use library::sheet::{candidates, GRID, LINES};
 use library::{census, choose, day_log, examine, explain, load, target, target_from_page};
-use library::{Candidate, Census, Date, Day, Figures, Load, Reading, Request, TankFlow, Term};
-use library::{TermFigures, Terms, LOAD_PAGE, MOST_TERMS, TARGET_LENGTH, TARGET_PAGE, VERSION};
+use library::{Candidate, Census, Date, Day, Figures, Load, Process, Reading, Request, TankFlow};
+use library::{
+    Term, TermFigures, Terms, LOAD_PAGE, MOST_TERMS, TARGET_LENGTH, TARGET_PAGE, VERSION,
+};
 use library::{CENSUS_LENGTH, CHOOSE_LENGTH, COUNTED, EXAMINE_LENGTH, FIGURES_LENGTH, PAGE_LENGTH};
 
 const UNTOUCHED: u8 = 0xaa;
@@ -210,6 +212,37 @@ fn bulking_sludge_is_refused() {
         assert_eq!(census(&request.to_choose(), &mut page).0, number);
         let bytes = request.to_examine(CASE_A_CANDIDATE);
         assert_eq!(explain(&bytes, &mut page).0, number);
+    }
+}
+
+/// An intermittent plant's transfer is that of a simultaneous one, divided by
+/// the part of a cycle in which its blowers run.
+#[test]
+fn intermittent_blowers_pause() {
+    for (fraction, oxygen, steady, paused) in [
+        (200, 107_396, 138_081, 172_601),
+        (300, 108_355, 139_314, 199_020),
+        (500, 110_563, 142_153, 284_305),
+    ] {
+        for (process, transfer) in [
+            (Process::Simultaneous, steady),
+            (Process::Intermittent, paused),
+        ] {
+            let request = Request {
+                process,
+                nitrate_target: 25_000,
+                ..case_a()
+            };
+            let candidate = Candidate {
+                fraction,
+                ..CASE_A_CANDIDATE
+            };
+            let mut page = [UNTOUCHED; PAGE_LENGTH];
+            let (number, written) = examine(&request.to_examine(candidate), &mut page);
+            assert_eq!(number, SHEET);
+            let end = format!("\noxygen {oxygen}\ntransfer {transfer}\n");
+            assert!(page[..written as usize].ends_with(end.as_bytes()), "{end}");
+        }
     }
 }
 

@@ -45,6 +45,21 @@ pub fn oxygen_transfer(saturation: u64, hourly: u64) -> u64 {
     up(saturation * hourly, saturation - 2_000)
 }
 
+/// The same for blowers that stand still for the denitrification fraction, in
+/// thousandths, of each cycle (5-29); rounded once.
+pub fn paused_oxygen_transfer(saturation: u64, hourly: u64, fraction: u64) -> u64 {
+    let aerated = 1000 - fraction;
+    up(1000 * saturation * hourly, (saturation - 2_000) * aerated)
+}
+
+/// Oxygen transfer of a process: only the intermittent one pauses.
+pub fn transfer_of(process: Process, saturation: u64, hourly: u64, fraction: u64) -> u64 {
+    match process {
+        Process::Intermittent => paused_oxygen_transfer(saturation, hourly, fraction),
+        _ => oxygen_transfer(saturation, hourly),
+    }
+}
+
 /// Recirculation ratio, thousandths.
 pub fn recirculation(process: Process, to_nitrify: u64, nitrate_target: u64) -> u64 {
     match process {

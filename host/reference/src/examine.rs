@@ -92,7 +92,7 @@ fn tank(plant: &Plant, ratio: u64, time: u64, root: u64) -> Result<Tank, u8> {
 }
 
 /// Hourly oxygen and transfer, g/h.
-fn aeration(plant: &Plant, bod: u64, nitrate: &Nitrate) -> (u64, u64) {
+fn aeration(plant: &Plant, bod: u64, fraction: u64, nitrate: &Nitrate) -> (u64, u64) {
     let flow = u64::from(plant.daily_flow);
     let factor = decay(u64::from(plant.aeration_temperature));
     let weighted = weighted_sludge_age(nitrate.age, factor);
@@ -103,7 +103,8 @@ fn aeration(plant: &Plant, bod: u64, nitrate: &Nitrate) -> (u64, u64) {
         u64::from(plant.carbon_peak_factor),
         u64::from(plant.nitrogen_peak_factor),
     );
-    let transfer = oxygen_transfer(u64::from(plant.oxygen_saturation), hourly);
+    let saturation = u64::from(plant.oxygen_saturation);
+    let transfer = transfer_of(plant.process, saturation, hourly, fraction);
     (hourly, transfer)
 }
 
@@ -122,7 +123,7 @@ pub fn design(
     let tank = tank(plant, ratio, time, root)?;
     let reactor = reactor_volume(sludge.mass, reactor_solids(plant.process, tank.solids));
     let volume = settling_volume(tank.surface, tank.depth);
-    let (hourly, transfer) = aeration(plant, accepted[0], &nitrate);
+    let (hourly, transfer) = aeration(plant, accepted[0], fraction, &nitrate);
     let target = u64::from(plant.nitrate_target);
     Ok(Sheet {
         fraction,

@@ -2,9 +2,8 @@
 //! sludge plant with nitrification and denitrification.
 //!
 //! Concentrations are in mg/m3, ages in thousandths of a day, all figures
-//! whole numbers. The largest product on accepted data, Q x C x specific
-//! oxygen uptake, is below 10^15, and a two-week load below 10^16, so u64 holds
-//! every step.
+//! whole numbers. The largest product on accepted data, 1000 x Cs x hourly
+//! oxygen, and a two-week load are below 10^16, so u64 holds every step.
 
 pub mod aeration;
 pub mod age;

@@ -18,6 +18,8 @@ mod extremes;
 mod order;
 #[path = "cases/pages.rs"]
 mod pages;
+#[path = "cases/pauses.rs"]
+mod pauses;
 #[path = "cases/properties.rs"]
 mod properties;
 #[path = "cases/ranges.rs"]

@@ -1,11 +1,11 @@
 -- `aeration` meets its contract: each call gives its step, and the steps are the definition's. Assumes nothing.
 use borrow.Author.Needs.{needs}
-use Rattle.rules.specs.AerationSteps.{aerationSaving, aerationOf}
+use Rattle.rules.specs.AerationSteps.{aerationBy, aerationSaving, aerationOf}
 use Rattle.aeration.proofs.aeration.Statement.{statement}
 use Rattle.aeration.proofs.aeration.Tie as tie
 
 returns : tie.Need-returns
-unfolding aerationSaving aerationOf
+unfolding aerationBy aerationSaving aerationOf
 returns c =
     let transfer = c .before in
     let hourly = transfer .before in
@@ -16,7 +16,7 @@ returns c =
     let corrected = uptake .before in
     rw (
       c .recirculated .ensures,
-      transfer .oxygen-transfer .ensures,
+      transfer .transfer .ensures,
       hourly .hourly-oxygen .ensures .0,
       nitrification .nitrification-oxygen .ensures .0,
       net .net-carbon .ensures .0,

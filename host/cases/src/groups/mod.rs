@@ -8,6 +8,7 @@ mod edges;
 mod kinds;
 mod nitrate;
 mod pages;
+mod pauses;
 mod readings;
 mod settling;
 mod term_choices;
@@ -69,5 +70,8 @@ pub fn all() -> Collection {
     term_choices::plain(&mut cases, &mut random);
     bulking::index(&mut cases);
     bulking::order(&mut cases);
+    pauses::one_rounding(&mut cases, &mut random);
+    pauses::ends(&mut cases);
+    pauses::choices(&mut cases, &mut random);
     cases
 }

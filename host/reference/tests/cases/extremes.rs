@@ -51,6 +51,28 @@ fn largest_loads() {
     }
 }
 
+/// The transfer of the largest loads, without nitrogen up to nearly the most
+/// that is covered.
+#[test]
+fn largest_transfer() {
+    for saturation in [6_000, 15_000] {
+        for nitrogen in [0.0, 350.0, 480.0] {
+            let plant = Plant {
+                oxygen_saturation: saturation,
+                process: Process::Intermittent,
+                dose: 500_000,
+                ..largest_plant()
+            };
+            let readings = measured([2_000.0, 4_400.0, 2_000.0, nitrogen, 100.0]);
+            let found = sheet(examine(&plant, &readings, candidate(500, 30, 20)));
+            let exact = 1000 * u128::from(saturation) * u128::from(found.hourly_oxygen);
+            assert!(exact < 10_000_000_000_000_000);
+            let divisor = 500 * u128::from(saturation - 2_000);
+            assert_eq!(u128::from(found.oxygen_transfer), exact.div_ceil(divisor));
+        }
+    }
+}
+
 #[test]
 fn smallest_loads() {
     let mut plant = plant_a();
