@@ -53,12 +53,12 @@ held-V l k b c = accepted hopperPlant readingsA l c .1 k b ∙ ap (λ (x : Conce
 pub last-fraction-left-out : (l : List ℕ) → at l 0 ≡ 200 * 276 → CensusOutcome caseA readingsA 0 l → ⊥
 last-fraction-left-out l e c = omega (arith, held-A l 0 (omega arith) c, case-A .permitted)
 
--- A rule counted where an earlier one is broken already: the 93 tanks that break rule 8 with all 301 fractions.
-pub earlier-rule-ignored : (l : List ℕ) → at l 8 ≡ 301 * 93 → CensusOutcome hopperPlant readingsA 0 l → ⊥
+-- A rule counted where an earlier one is broken already: the 94 tanks that break rule 8 with all 301 fractions.
+pub earlier-rule-ignored : (l : List ℕ) → at l 8 ≡ 301 * 94 → CensusOutcome hopperPlant readingsA 0 l → ⊥
 earlier-rule-ignored l e c = omega (arith, held-V l 8 (omega arith) c, vertical .solids)
 
--- The tank's rules before the fraction's: rule 7 first only with the 116 tanks that keep their rules.
-pub tank-before-fraction : (l : List ℕ) → at l 7 ≡ 100 * 116 → CensusOutcome hopperPlant readingsA 0 l → ⊥
+-- The tank's rules before the fraction's: rule 7 first only with the 115 tanks that keep their rules.
+pub tank-before-fraction : (l : List ℕ) → at l 7 ≡ 100 * 115 → CensusOutcome hopperPlant readingsA 0 l → ⊥
 tank-before-fraction l e c = omega (arith, held-V l 7 (omega arith) c, vertical .nitrate)
 
 -- Vertical flow counted with 46 return ratios: for any data the counts would add up to the grid of horizontal flow.

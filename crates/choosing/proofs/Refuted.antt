@@ -32,15 +32,20 @@ pub five-before-looking : Chosen caseA readingsA (Answer.Refused Refusal.NoDesig
 unfolding steps
 five-before-looking h = h .1 (candidate 300 75 20) tt tt
 
--- Case A's own listing, examined at 300, 75, 20: 300, 73, 21 is permitted and smaller.
+-- Case A's own listing, examined at 300, 75, 20: 300, 71, 22 is permitted and smaller.
 pub case-A-listing : Chosen caseA readingsA (examine caseA readingsA (candidate 300 75 20)) → ⊥
 unfolding steps
-case-A-listing h = le→leb 5_167 5_164 (h .rivals (candidate 300 73 21) tt tt .total)
+case-A-listing h = le→leb 5_165 5_164 (h .rivals (candidate 300 71 22) tt tt .total)
+
+-- 300, 73, 21, the choice by a root with three digits: 300, 71, 22 is smaller.
+pub coarse-choice : Chosen caseA readingsA (examine caseA readingsA (candidate 300 73 21)) → ⊥
+unfolding steps
+coarse-choice h = le→leb 5_166 5_164 (h .rivals (candidate 300 71 22) tt tt .total)
 
 -- Stopping at the least covered fraction, 300, and taking its best tank: 301, 49, 20 is permitted and smaller.
 pub least-covered-fraction : Chosen caseA cleanReadings (examine caseA cleanReadings (candidate 300 49 20)) → ⊥
 unfolding steps cleanReadings
-least-covered-fraction h = le→leb 3_002 3_000 (h .rivals (candidate 301 49 20) tt tt .total)
+least-covered-fraction h = le→leb 3_001 2_999 (h .rivals (candidate 301 49 20) tt tt .total)
 
 -- A sheet of zeros has no smaller rival, and is not the sheet of a permitted candidate.
 pub sheet-of-zeros : Chosen caseA readingsA (Answer.Designed emptySheet) → ⊥
@@ -73,7 +78,7 @@ pub ties-to-longer-time : Chosen tinyPlant readingsA (examine tinyPlant readings
 unfolding steps tinyPlant
 ties-to-longer-time h = le→leb 21 20 (h .rivals (candidate 300 30 20) tt tt .time refl refl refl)
 
--- Return ratios above 75 left out in vertical flow: 300, 75, 25 is the best of the others, 300, 93, 25 is smaller.
+-- Return ratios above 75 left out in vertical flow: 300, 75, 25 is the best of the others, 300, 94, 25 is smaller.
 pub vertical-held-to-75 : Chosen verticalPlant readingsA (examine verticalPlant readingsA (candidate 300 75 25)) → ⊥
 unfolding steps verticalPlant
-vertical-held-to-75 h = le→leb 5_766 5_641 (h .rivals (candidate 300 93 25) tt tt .total)
+vertical-held-to-75 h = le→leb 5_764 5_640 (h .rivals (candidate 300 94 25) tt tt .total)

@@ -63,12 +63,12 @@ oxygenBy uptake f =
     120
     200
 
--- the depth of Case A at r 50 and h 20, where q is held at 1,600, V is 294 and E 2,937, by its sludge volume loading
+-- the depth of Case A at r 50 and h 20, where q is held at 1,600, V is 294 and E 2,939, by its sludge volume loading
 abbrev depthBy : ℕ → ℕ
 depthBy loading =
     max
     3_000
-    (500 + up (5 * 1_600 * 150) (1000 - 294) + up (9 * loading * 150) 1000 + up (2_937 * 1_600 * 150 * 20) (1000 * 12_590))
+    (500 + up (5 * 1_600 * 150) (1000 - 294) + up (9 * loading * 150) 1000 + up (2_939 * 1_600 * 150 * 20) (1000 * 12_599))
 
 -- a site that is too small and too shallow for Case A's settling tank, and the verdict with 10 asked before 9
 abbrev smallSite : Plant
@@ -95,7 +95,7 @@ pub record Refuted : Type 0 where
   pub case-A-for-candidates : Differ (sheetAt caseA 300 50 20 .depth) 3_956 (sheetAt caseA 300 75 20 .depth)
   -- it does so for every plant that gets a sheet: suction has other solids
   pub case-A-for-plants :
-      Differ (sheetAt (variant 5_000 10_000 1_000 5_000 Process.PreAnoxic TankFlow.Horizontal Removal.Suction) 300 75 20 .solids) 2_697 (sheetAt caseA 300 75 20 .solids)
+      Differ (sheetAt (variant 5_000 10_000 1_000 5_000 Process.PreAnoxic TankFlow.Horizontal Removal.Suction) 300 75 20 .solids) 2_699 (sheetAt caseA 300 75 20 .solids)
   -- it rounds o up for the capacity, as for the aeration: it gives a sheet where 7 is due
   pub uptake-up : Differ (answerNumber (answerAt simultaneous 452 75 20)) (numberBy capacityUptake 452) (numberBy aerationUptake 452)
   -- it rounds o down for the aeration, as for the capacity: its sheet has too little oxygen
@@ -104,4 +104,4 @@ pub record Refuted : Type 0 where
   pub loading-kept : Differ (sheetAt caseA 300 50 20 .depth) (depthBy (up (1_600 * 294) 1000)) (depthBy 500)
   -- it takes the reactor's volume with E in step-feed too
   pub solids-not-raised :
-      Differ (sheetAt (withProcess (Process.StepFeed Steps.Two) 10_000) 300 75 20 .reactor) (reactorVolume 11_733 4_305) (reactorVolume 11_733 3_777)
+      Differ (sheetAt (withProcess (Process.StepFeed Steps.Two) 10_000) 300 75 20 .reactor) (reactorVolume 11_733 4_308) (reactorVolume 11_733 3_779)

@@ -31,7 +31,7 @@ always-off-grid e = eqb-false 6 0 refl (ap explanationNumber (e caseA readingsA 
 -- it explains one candidate whatever is asked: the return ratio 50 has another depth
 pub one-candidate-explained : Wrong (λ p r y. explain p r (candidate 300 75 20))
 unfolding steps
-one-candidate-explained e = eqb-false 4_537 3_956 refl (ap (λ (x : Explanation). explanationFigures x .depth) (e caseA readingsA (candidate 300 50 20)))
+one-candidate-explained e = eqb-false 4_536 3_956 refl (ap (λ (x : Explanation). explanationFigures x .depth) (e caseA readingsA (candidate 300 50 20)))
 
 abbrev verdictAt : ℕ → ℕ
 verdictAt f = verdictNumber (explanationFigures (explain caseA readingsA (candidate f 75 20)) .verdict)
@@ -48,8 +48,8 @@ dosedFigures dose = take 9 (explainedFigures (explanationFigures (explain (withD
 -- it leaves the dose out of the right column, or exchanges its parts: at a dose of 1,000 they are 25,800 and 200, and their sum
 -- just covers 26,000; at 999 they do not
 pub dosed-columns :
-    (dosedFigures 1_000 ≡ 26_000 ∷ 25_800 ∷ 200 ∷ 26_000 ∷ 3_777 ∷ 378 ∷ 454 ∷ 4_537 ∷ 0 ∷ [])
-    × (dosedFigures 999 ≡ 26_000 ∷ 25_800 ∷ 199 ∷ 25_999 ∷ 3_777 ∷ 378 ∷ 454 ∷ 4_537 ∷ 7 ∷ [])
+    (dosedFigures 1_000 ≡ 26_000 ∷ 25_800 ∷ 200 ∷ 26_000 ∷ 3_779 ∷ 378 ∷ 454 ∷ 4_536 ∷ 0 ∷ [])
+    × (dosedFigures 999 ≡ 26_000 ∷ 25_800 ∷ 199 ∷ 25_999 ∷ 3_779 ∷ 378 ∷ 454 ∷ 4_536 ∷ 7 ∷ [])
 unfolding steps
 dosed-columns = (refl, refl)
 

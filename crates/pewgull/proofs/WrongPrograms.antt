@@ -7,8 +7,9 @@
 pub use Rattle.choosing.proofs.Refuted.{five-before-looking}
 -- the best design of the least covered fraction: 301, 49, 20 is permitted and smaller
 pub use Rattle.choosing.proofs.Refuted.{least-covered-fraction}
--- Case A's own listing as the choice, a sheet of zeros, and ties settled otherwise
-pub use Rattle.choosing.proofs.Refuted.{case-A-listing, sheet-of-zeros, ties-to-larger-fraction, ties-by-time-first, ties-to-longer-time, vertical-held-to-75}
+-- Case A's own listing as the choice, the choice by a bottom sludge with three digits of the root, a sheet of zeros, and ties
+-- settled otherwise
+pub use Rattle.choosing.proofs.Refuted.{case-A-listing, coarse-choice, sheet-of-zeros, ties-to-larger-fraction, ties-by-time-first, ties-to-longer-time, vertical-held-to-75}
 -- the same answer to every candidate, 7 or Case A's sheet; the oxygen uptake rounded alike for capacity and aeration; the
 -- sludge volume loading taken in the depth where the overflow rate is held: fields of one record
 pub use Rattle.examining.proofs.WrongExaminers.{Refuted}

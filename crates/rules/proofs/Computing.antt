@@ -81,6 +81,7 @@ unfolding
     ReactorSteps.sludgeMass
     ReactorSteps.reactorOf
     SettlingSteps.rootFrom
+    SettlingSteps.rootByDigits
     SettlingSteps.cubeRoot
     SettlingSteps.thickeningRoot
     SettlingSteps.bottomSludge

@@ -27,6 +27,7 @@ cases =
       case-7-refusal = refl;
       case-8-at-91 = refl;
       case-8-at-92 = refl;
+      case-8-refusal-at-91 = refl;
       case-8-refusal = refl;
       case-9-passes = refl;
       case-9-refusal = refl;

@@ -1,5 +1,5 @@
--- Document 01, "Case A and its listing" and the table cases (1) to (9): the data, and one record of all the equations.
--- The theorem `cases` in proofs/WorkedCases.antt proves the record. Assumes nothing.
+-- Document 01, "Case A and its listing" and the table cases (1) to (9), with the bottom sludge of document 02, item 7: the data,
+-- and one record of all the equations. The theorem `cases` in proofs/WorkedCases.antt proves the record. Assumes nothing.
 use Prim.Native.Nat.{ℕ, _*_}
 use mathlib.Core.Path.{_≡_}
 use mathlib.Core.Bool.{false}
@@ -99,7 +99,7 @@ pub record Cases : Type 0 where
   pub case-A :
       listing (examine caseA readingsA (candidate 300 75 20))
       ≡ text
-      "fraction 300\nreturn 75\nthickening 20\nage 11733\nsludge 1000000\nmass 11733\nsolids 3777\nreactor 3107\nsurface 454\ndepth 4537\nsettling 2060\ntotal 5167\nrecirculation 2600\noxygen 99292\ntransfer 127662\n"
+      "fraction 300\nreturn 75\nthickening 20\nage 11733\nsludge 1000000\nmass 11733\nsolids 3779\nreactor 3105\nsurface 454\ndepth 4536\nsettling 2060\ntotal 5165\nrecirculation 2600\noxygen 99292\ntransfer 127662\n"
   pub case-1-growth : growth 12 ≡ 1_341_919
   pub case-1-decay-12 : decay 12 ≡ 811_736
   pub case-1-decay-20 : decay 20 ≡ 1_415_707
@@ -110,15 +110,17 @@ pub record Cases : Type 0 where
   pub case-3-at-145 : aerobicAge 145 12 ≡ 6_616
   pub case-4-at-200 : sludgeAge 8_213 200 ≡ 10_267
   pub case-4-at-500 : sludgeAge 8_213 500 ≡ 16_426
-  pub case-5-at-20 : thickeningRoot 20 ≡ 1_259
-  pub case-5-at-25 : thickeningRoot 25 ≡ 1_357
+  pub case-5-at-20 : thickeningRoot 20 ≡ 12_599
+  pub case-5-at-25 : thickeningRoot 25 ≡ 13_572
   pub case-6-tie-down : readingA (Reading.Measured (f32 625 10_000)) ≡ 62
   pub case-6-tie-up : readingA (Reading.Measured (f32 1_875 10_000)) ≡ 188
   pub case-6-below : readingA (Below (f32 125 1_000)) ≡ 62
   pub case-7-capacity : reactorOf caseA concentrationsA 299 .removes ≡ 129 * 200_000
   pub case-7-refusal : answerNumber (examine caseA readingsA (candidate 299 75 20)) ≡ 7
-  pub case-8-at-91 : hopperVolume 91 ≡ 600
+  pub case-8-at-91 : hopperVolume 91 ≡ 601
   pub case-8-at-92 : hopperVolume 92 ≡ 604
+  pub case-8-refusal-at-91 :
+      answerNumber (examine hopperPlant readingsA (candidate 300 91 20)) ≡ 8
   pub case-8-refusal :
       answerNumber (examine hopperPlant readingsA (candidate 300 92 20)) ≡ 8
   pub case-9-passes : acceptanceNumber (accept caseA (readingsWith (f32 440 1))) ≡ 0

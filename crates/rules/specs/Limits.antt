@@ -86,15 +86,25 @@ mostSludge = 700_000_000
 abbrev pub mostMass : ℕ
 mostMass = 14_000_000
 
+-- B, and with it R, g/m3
+abbrev pub leastBottom : ℕ
+leastBottom = 6_900
+
+abbrev pub mostBottom : ℕ
+mostBottom = 27_200
+
+abbrev pub leastReturned : ℕ
+leastReturned = 3_450
+
 -- E and E', g/m3
 abbrev pub leastSolids : ℕ
-leastSolids = 700
+leastSolids = 790
 
 abbrev pub mostSolids : ℕ
-mostSolids = 14_000
+mostSolids = 13_600
 
 abbrev pub mostReactorSolids : ℕ
-mostReactorSolids = 16_800
+mostReactorSolids = 16_400
 
 -- V, l/m3
 abbrev pub mostSludgeVolume : ℕ

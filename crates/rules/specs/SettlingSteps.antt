@@ -15,17 +15,22 @@ unfoldable pub rootFrom : ℕ → ℕ → ℕ → ℕ
 rootFrom zero c n = c
 rootFrom (suc d) c n = elim (leb ((c + 1) * (c + 1) * (c + 1)) n) [ true ↦ rootFrom d (c + 1) n | false ↦ c ]
 
--- the largest whole number whose cube is at most n (law `cube-root` in proofs/CubeRoot.antt); n steps are enough
-unfoldable pub cubeRoot : ℕ → ℕ
-cubeRoot n = rootFrom n 0 n
+-- the largest whole number whose cube is at most n (law `cube-root` in proofs/CubeRoot.antt), digit by digit: the root of
+-- n without its last three digits has all digits but the last, which is 0 to 9; n bounds the number of digits
+unfoldable pub rootByDigits : ℕ → ℕ → ℕ
+rootByDigits zero n = 0
+rootByDigits (suc d) n = elim (leb n 0) [ true ↦ 0 | false ↦ rootFrom 9 (10 * rootByDigits d (down n 1000)) n ]
 
--- c, from the thickening time h
+unfoldable pub cubeRoot : ℕ → ℕ
+cubeRoot n = rootByDigits n n
+
+-- c, from the thickening time h: the root in ten-thousandths (document 02, item 7)
 unfoldable pub thickeningRoot : ℕ → ℕ
-thickeningRoot thickening = cubeRoot (thickening * 100_000_000)
+thickeningRoot thickening = cubeRoot (thickening * 100_000_000_000)
 
 -- B, bottom sludge, g/m3, from c and I (6-1)
 unfoldable pub bottomSludge : ℕ → ℕ → ℕ
-bottomSludge c index = down (1000 * c) index
+bottomSludge c index = down (100 * c) index
 
 -- w, the part of the bottom sludge's solids that the return sludge has, tenths
 unfoldable pub returnShare : Removal → ℕ

@@ -4,7 +4,7 @@ use mathlib.Core.Path.{_≡_}
 use Prim.Native.Nat.{ℕ, _+_, _-_, _*_, _≤_, max}
 use native.Mathlib.Omega.{arith}
 use Rattle.rules.specs.Rounding.{up}
-use Rattle.rules.specs.Limits.{leastSolids, mostSolids, leastDepth}
+use Rattle.rules.specs.Limits.{leastBottom, mostBottom, leastSolids, mostSolids, leastDepth}
 use Rattle.rules.specs.Ranges.{Between, GridRatio, GridTime, PlantRanges, SettlingBounds}
 use Rattle.rules.specs.SettlingSteps.{thickeningRoot, bottomSludge, returnShare, returnSludge, mixedSolids, dilutedVolume, surfaceOverflowRate, settlingSurface, settlingDepth, settlingVolume, settlingOf}
 use Rattle.rules.specs.declared.Plant.{Plant}
@@ -19,7 +19,7 @@ settling-bounds p ratio thickening g r h =
     let b : ℕ = bottomSludge (thickeningRoot thickening) index in
     let returned : ℕ = returnSludge (returnShare (p .removal)) b in
     let e : ℕ = mixedSolids returned ratio in
-    let settled : Between 6_200 28_000 b = bottom-limits (root-limits h) (g .index) in
+    let settled : Between leastBottom mostBottom b = bottom-limits (root-limits h) (g .index) in
     let returning = returned-limits (share-limits (p .removal)) settled in
     let mixed : Between leastSolids mostSolids e = mixed-limits (returning .0) r in
     let half : 2 * e ≤ b = omega (arith, mixed-half returned r, returning .1) in

@@ -5,6 +5,7 @@ use Prim.Native.Nat.{ℕ, _+_, _-_, _*_, _≤_, _<_}
 use native.Mathlib.Nat.{mul-le-mul, mul-le-mul-left, mul-le-mul-right, le-of-mul-le-mul-left, div-mul-le-self}
 use native.Mathlib.Omega.{arith}
 use Rattle.rules.specs.Rounding.{down, up}
+use Rattle.rules.specs.Limits.{leastBottom, mostBottom, leastReturned, leastSolids, mostSolids}
 use Rattle.rules.specs.Ranges.{Between, Index}
 use Rattle.rules.specs.SettlingSteps.{cubeRoot, thickeningRoot, bottomSludge, returnShare, returnSludge, mixedSolids, dilutedVolume, volumeLoading, largestOverflowRate, surfaceOverflowRate, settlingSurface, settlingDepth, settlingVolume}
 use Rattle.rules.specs.declared.Removal.{Removal}
@@ -26,23 +27,23 @@ pub up-limits : (a d most : ℕ) → 0 < a → 0 < d → a ≤ most * d → Betw
 up-limits a d most some pos fits =
     record { least = le-down (a + (d - 1)) d 1 pos .1 (omega arith); most = up-le a d most pos .1 fits }
 
--- 1,259's cube is at most 20 · 100,000,000, and 1,358's above 25 · 100,000,000
-pub root-limits : {h : ℕ} → Between 20 25 h → Between 1_259 1_357 (thickeningRoot h)
+-- 12,599's cube is at most 20 · 100,000,000,000, and 13,573's above 25 · 100,000,000,000
+pub root-limits : {h : ℕ} → Between 20 25 h → Between 12_599 13_572 (thickeningRoot h)
 unfolding thickeningRoot
 root-limits {h} b =
-    let most : cubeRoot (h * 100_000_000) < 1_358 = cube-lt (cubeRoot (h * 100_000_000)) 1_358 (omega (arith, cube-root (h * 100_000_000) .0)) in
-    record { least = cube-root (h * 100_000_000) .1 1_259 (omega arith); most = omega arith }
+    let most : cubeRoot (h * 100_000_000_000) < 13_573 = cube-lt (cubeRoot (h * 100_000_000_000)) 13_573 (omega (arith, cube-root (h * 100_000_000_000) .0)) in
+    record { least = cube-root (h * 100_000_000_000) .1 12_599 (omega arith); most = omega arith }
 
 -- B · I
-pub bottom-index : {c : ℕ} (index : ℕ) → Between 1_259 1_357 c → bottomSludge c index * index ≤ 1_357_000
+pub bottom-index : {c : ℕ} (index : ℕ) → Between 12_599 13_572 c → bottomSludge c index * index ≤ 1_357_200
 unfolding bottomSludge
-bottom-index {c} index b = omega (arith, down-mul (1000 * c) index)
+bottom-index {c} index b = omega (arith, down-mul (100 * c) index)
 
-pub bottom-limits : {c index : ℕ} → Between 1_259 1_357 c → Index index → Between 6_200 28_000 (bottomSludge c index)
+pub bottom-limits : {c index : ℕ} → Between 12_599 13_572 c → Index index → Between leastBottom mostBottom (bottomSludge c index)
 unfolding bottomSludge
 bottom-limits {c} {index} b i =
     record {
-      least = le-down (1000 * c) index 6_200 (omega arith) .1 (omega arith);
+      least = le-down (100 * c) index leastBottom (omega arith) .1 (omega arith);
       most = omega (arith, bottom-index index b, mul-le-mul-left (bottomSludge c index) (i .least));
     }
 
@@ -52,7 +53,7 @@ share-limits Removal.Scraper = omega arith
 share-limits Removal.Suction = omega arith
 share-limits Removal.Hopper = omega arith
 
-pub returned-limits : {share bottom : ℕ} → Between 5 10 share → Between 6_200 28_000 bottom → Between 3_100 28_000 (returnSludge share bottom) × (returnSludge share bottom ≤ bottom)
+pub returned-limits : {share bottom : ℕ} → Between 5 10 share → Between leastBottom mostBottom bottom → Between leastReturned mostBottom (returnSludge share bottom) × (returnSludge share bottom ≤ bottom)
 unfolding returnSludge
 returned-limits {share} {bottom} s b = omega (arith, mul-le-mul-right bottom (s .least), mul-le-mul-right bottom (s .most))
 
@@ -64,19 +65,19 @@ mixed-half returned {ratio} r =
     (omega (arith, down-mul (ratio * returned) (100 + ratio), mul-le-mul-left (mixedSolids returned ratio) (r .most)))
     (omega arith)
 
-pub mixed-limits : {returned ratio : ℕ} → Between 3_100 28_000 returned → Between 30 100 ratio → Between 700 14_000 (mixedSolids returned ratio)
+pub mixed-limits : {returned ratio : ℕ} → Between leastReturned mostBottom returned → Between 30 100 ratio → Between leastSolids mostSolids (mixedSolids returned ratio)
 unfolding mixedSolids
 mixed-limits {returned} {ratio} b r =
     record {
-      least = le-down (ratio * returned) (100 + ratio) 700 (omega arith) .1 (omega (arith, mul-le-mul-left ratio (b .least)));
+      least = le-down (ratio * returned) (100 + ratio) leastSolids (omega arith) .1 (omega (arith, mul-le-mul-left ratio (b .least)));
       most = omega (arith, mixed-half returned r);
     }
 
 -- E · I, from 2E at most B
-pub solids-index : (solids bottom index : ℕ) → 2 * solids ≤ bottom → bottom * index ≤ 1_357_000 → solids * index ≤ 678_500
+pub solids-index : (solids bottom index : ℕ) → 2 * solids ≤ bottom → bottom * index ≤ 1_357_200 → solids * index ≤ 678_600
 solids-index solids bottom index half product = omega (arith, mul-le-mul-right index half)
 
-pub diluted-limits : {solids index : ℕ} → Between 700 14_000 solids → Index index → solids * index ≤ 678_500 → Between 1 679 (dilutedVolume solids index)
+pub diluted-limits : {solids index : ℕ} → Between leastSolids mostSolids solids → Index index → solids * index ≤ 678_600 → Between 1 679 (dilutedVolume solids index)
 unfolding dilutedVolume
 diluted-limits {solids} {index} e i product = omega (arith, mul-le-mul (e .least) (i .least))
 

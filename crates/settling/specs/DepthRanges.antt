@@ -1,6 +1,6 @@
 -- The figures that a settling depth is computed from are in range, for the contract of the inner function. Assumes nothing.
 use Prim.Native.Nat.{ℕ, _*_, _≤_}
-use Rattle.rules.specs.Limits.{leastSolids, mostSolids, mostSludgeVolume}
+use Rattle.rules.specs.Limits.{leastBottom, mostBottom, leastSolids, mostSolids, mostSludgeVolume}
 use Rattle.rules.specs.Ranges.{Between, GridRatio, GridTime}
 
 -- q, r, V, E, h and B; the solids are at most half the bottom sludge's
@@ -10,5 +10,5 @@ pub record DepthRanges (rate ratio volume solids thickening bottom : ℕ) : Type
   pub diluted : Between 1 mostSludgeVolume volume
   pub mixed : Between leastSolids mostSolids solids
   pub time : GridTime thickening
-  pub settled : Between 6_200 28_000 bottom
+  pub settled : Between leastBottom mostBottom bottom
   pub half : 2 * solids ≤ bottom

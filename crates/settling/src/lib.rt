@@ -1,7 +1,7 @@
 // The secondary settling tank: what depends on the return ratio and the thickening time alone.
 ghost use mathlib.Core.Path.{_≡_};
 ghost use Prim.Native.Nat.{_*_, _≤_, _<_};
-ghost use Rattle.rules.specs.Limits.{leastSolids, mostSolids, mostSludgeVolume, mostSurface, leastDepth, mostDepth, mostSettlingVolume};
+ghost use Rattle.rules.specs.Limits.{leastBottom, mostBottom, leastReturned, leastSolids, mostSolids, mostSludgeVolume, mostSurface, leastDepth, mostDepth, mostSettlingVolume};
 ghost use Rattle.rules.specs.Ranges.{Between, Index, GridRatio, GridTime, PlantRanges, SettlingBounds};
 ghost use Rattle.rules.specs.SettlingSteps.{cubeRoot, thickeningRoot, bottomSludge, returnShare, returnSludge, mixedSolids, dilutedVolume, solidsKept, volumeLoading, largestOverflowRate, surfaceOverflowRate, settlingSurface, settlingDepth, settlingVolume, settlingOf};
 ghost use Rattle.rules.specs.Rules.{verdict};
@@ -37,20 +37,20 @@ fn cube_root(n: u64) -> u64
     }
 }
 
-// c, the root that the bottom sludge rests on
+// c, the root that the bottom sludge rests on, ten-thousandths
 fn thickening_root(thickening: u64) -> u64
     requires { ⌜ GridTime thickening ⌝ }
-    ensures { λ r. ⌜ (r ≡ thickeningRoot thickening) × Between 1_259 1_357 r ⌝ }
+    ensures { λ r. ⌜ (r ≡ thickeningRoot thickening) × Between 12_599 13_572 r ⌝ }
 {
-    cube_root(thickening * 100_000_000)
+    cube_root(thickening * 100_000_000_000)
 }
 
 // B, bottom sludge, g/m3: one figure for each thickening time, whatever the return ratio.
 pub fn bottom_sludge(index: u32, thickening: u32) -> u64
     requires { ⌜ Index index × GridTime thickening ⌝ }
-    ensures { λ r. ⌜ (r ≡ bottomSludge (thickeningRoot thickening) index) × Between 6_200 28_000 r ⌝ }
+    ensures { λ r. ⌜ (r ≡ bottomSludge (thickeningRoot thickening) index) × Between leastBottom mostBottom r ⌝ }
 {
-    1000 * thickening_root(thickening as u64) / index as u64
+    100 * thickening_root(thickening as u64) / index as u64
 }
 
 // w, the return sludge's share of the bottom sludge, tenths
@@ -66,15 +66,15 @@ fn return_share(removal: Removal) -> u64
 
 // R, return sludge, g/m3
 fn return_sludge(removal: Removal, bottom: u64) -> u64
-    requires { ⌜ Between 6_200 28_000 bottom ⌝ }
-    ensures { λ r. ⌜ (r ≡ returnSludge (returnShare removal) bottom) × Between 3_100 28_000 r × (r ≤ bottom) ⌝ }
+    requires { ⌜ Between leastBottom mostBottom bottom ⌝ }
+    ensures { λ r. ⌜ (r ≡ returnSludge (returnShare removal) bottom) × Between leastReturned mostBottom r × (r ≤ bottom) ⌝ }
 {
     return_share(removal) * bottom / 10
 }
 
 // E, solids in the aeration tank, g/m3: at most half the return sludge's.
 fn mixed_solids(returned: u64, ratio: u64) -> u64
-    requires { ⌜ Between 3_100 28_000 returned × GridRatio ratio ⌝ }
+    requires { ⌜ Between leastReturned mostBottom returned × GridRatio ratio ⌝ }
     ensures { λ r. ⌜ (r ≡ mixedSolids returned ratio) × Between leastSolids mostSolids r × (2 * r ≤ returned) ⌝ }
 {
     ratio * returned / (100 + ratio)
@@ -82,7 +82,7 @@ fn mixed_solids(returned: u64, ratio: u64) -> u64
 
 // V, diluted sludge volume, l/m3
 fn diluted_volume(solids: u64, index: u64) -> u64
-    requires { ⌜ Between leastSolids mostSolids solids × Index index × (solids * index ≤ 678_500) ⌝ }
+    requires { ⌜ Between leastSolids mostSolids solids × Index index × (solids * index ≤ 678_600) ⌝ }
     ensures { λ r. ⌜ (r ≡ dilutedVolume solids index) × Between 1 mostSludgeVolume r ⌝ }
 {
     rounding::round_up(solids * index, 1000)

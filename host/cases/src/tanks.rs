@@ -52,6 +52,18 @@ impl Tank {
         flow == 1 || self.return_ratio <= 75
     }
 
+    /// The solids by a root that is cut to three digits after the point.
+    fn coarse(&self) -> Solids {
+        let root = cube_root(u64::from(self.thickening)) / 10 * 10;
+        let kind = REMOVALS[self.removal as usize];
+        stages::solids(
+            u64::from(self.index),
+            kind,
+            u64::from(self.return_ratio),
+            root,
+        )
+    }
+
     /// The sum of the depth's zones, before it is raised to 3,000.
     pub fn zones(&self, flow: u32) -> u64 {
         let rate = self.solids.overflow_rate(FLOWS[flow as usize]);
@@ -76,6 +88,9 @@ pub struct OnLines {
     pub solids_too_low: Vec<Tank>,
     pub most_volume: Vec<Tank>,
     pub volume_too_high: Vec<Tank>,
+    /// Rule 8 is kept, or broken, by the root's fourth digit alone.
+    pub kept_by_digit: Vec<Tank>,
+    pub broken_by_digit: Vec<Tank>,
     /// For each tank flow: the rate just held, and just below its limit.
     pub rate_held: [Vec<Tank>; 2],
     pub rate_free: [Vec<Tank>; 2],
@@ -119,6 +134,10 @@ impl OnLines {
             solids_too_low: select(&tanks, |t| t.solids.solids == 999),
             most_volume: select(&tanks, |t| t.solids.diluted_volume == 600),
             volume_too_high: select(&tanks, |t| t.solids.diluted_volume == 601),
+            kept_by_digit: select(&kept, |t| !t.coarse().are_allowed()),
+            broken_by_digit: select(&tanks, |t| {
+                !t.solids.are_allowed() && t.coarse().are_allowed()
+            }),
             rate_held: by_flow(&kept, |t, flow| {
                 t.solids.diluted_volume == held_volume(flow)
             }),
@@ -145,6 +164,8 @@ impl OnLines {
             &self.solids_too_low,
             &self.most_volume,
             &self.volume_too_high,
+            &self.kept_by_digit,
+            &self.broken_by_digit,
             &self.rate_held[place],
             &self.rate_free[place],
             &self.just_raised[place],

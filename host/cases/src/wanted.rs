@@ -154,6 +154,12 @@ const WANTED_PAUSES: [Wanted; 4] = [
     ("pauses, choose", 5, &[0]),
 ];
 
+const WANTED_FINER: [Wanted; 3] = [
+    ("kept by the fourth digit", 5, &[0]),
+    ("broken by the fourth digit", 6, &[8]),
+    ("index of 50", 12, &[0]),
+];
+
 const WANTED_PAGES: [Wanted; 5] = [
     ("exact page", 8, &[0, 1, 5, 9, 10]),
     ("page one byte short", 8, &[11]),
@@ -199,6 +205,7 @@ impl Summary {
             .chain(&WANTED_TERMS)
             .chain(&WANTED_BULKING)
             .chain(&WANTED_PAUSES)
+            .chain(&WANTED_FINER)
             .chain(&WANTED_PAGES);
         for (kind, least, allowed) in wanted {
             let found = self.kinds.get(kind).unwrap_or(&empty);

@@ -31,7 +31,7 @@ fn chooses_for_case_a() {
     let (number, written) = choose(&case_a().to_choose(), &mut page);
     let listing = &page[..written as usize];
     assert_eq!(number, SHEET);
-    assert!(listing.starts_with(b"fraction 300\nreturn 73\nthickening 21\n"));
+    assert!(listing.starts_with(b"fraction 300\nreturn 71\nthickening 22\n"));
 }
 
 #[test]
@@ -44,10 +44,10 @@ fn explains_case_a() {
         removed_by_bod: 26_000,
         removed_by_dose: 0,
         nitrate_removable: 26_000,
-        solids: 3_777,
+        solids: 3_779,
         sludge_volume: 378,
         surface: 454,
-        depth: 4_537,
+        depth: 4_536,
         verdict: 0,
         terms: [TermFigures::default(); MOST_TERMS],
     };

@@ -89,8 +89,8 @@ fn figures_and_limits() {
         nitrate-to-remove 26000\nnitrate-to-remove-at-most 25800\n\
         nitrate-removed-by-bod 25800\nnitrate-removed-by-dose 0\n\
         nitrate-removable 25800\nnitrate-removable-at-least 26000\n\
-        solids 3777\nsolids-at-least 1000\nsludge-volume 378\nsludge-volume-at-most 600\n\
-        surface 454\nsurface-at-most 1000\ndepth 4537\ndepth-at-most 5000\n\
+        solids 3779\nsolids-at-least 1000\nsludge-volume 378\nsludge-volume-at-most 600\n\
+        surface 454\nsurface-at-most 1000\ndepth 4536\ndepth-at-most 5000\n\
         verdict 7\nword nitrate\n"
     );
     assert_eq!((ran.status, listing(ran.out.trim_end())), (0, expected));
@@ -126,7 +126,7 @@ fn figures_of_terms() {
         format!("{CASE_A}term 11-01 03-31 8 30000\nterm 04-01 10-31 11 12999\n"),
     );
     let ran = pewgull(&["explain", "--json", &path, "300", "75", "20"]);
-    let expected = "depth 4537\ndepth-at-most 5000\n\
+    let expected = "depth 4536\ndepth-at-most 5000\n\
         term-1-aerobic-share 1037\nterm-1-aerobic-share-at-most 1000\n\
         term-1-fraction 0\nterm-1-fraction-at-most 300\n\
         term-1-to-remove 6000\nterm-1-to-remove-at-most 0\nterm-1-removed-by-bod 0\n\
@@ -175,7 +175,7 @@ fn each_file_has_its_object() {
     assert_eq!(ran.status, 2);
     let lines: Vec<_> = ran.out.lines().map(listing).collect();
     let starts = [
-        "status sheet\nfraction 300\nreturn 73\n",
+        "status sheet\nfraction 300\nreturn 71\n",
         "status refused\nnumber 5\nword no design\nmessage ",
         "status error\nmessage ",
         "status error\nmessage no-such.plant: no such file",

@@ -135,7 +135,7 @@ fn explain_prints_the_figures_of_each_term() {
     );
     let ran = pewgull(&["explain", &path, "300", "75", "20"]);
     let expected = "\
-depth                       4537  at most      5000 mm           kept
+depth                       4536  at most      5000 mm           kept
 term-1-aerobic-share        1037  at most      1000 thousandths  refusal 15
 term-1-fraction                0  at most       300 thousandths  kept
 term-1-to-remove            6000  at most       199 mg/m3        refusal 16

@@ -3,19 +3,22 @@
 use crate::plant::{Removal, TankFlow};
 use crate::rounding::{down, up};
 
-/// c: whole cube root of the thickening time (tenths of an hour) x 10^8.
+/// c: whole cube root of the thickening time (tenths of an hour) x 10^11,
+/// one decimal place after the other.
 pub fn cube_root(thickening: u64) -> u64 {
-    let limit = thickening * 100_000_000;
+    let limit = thickening * 100_000_000_000;
     let mut root = 0;
-    while (root + 1) * (root + 1) * (root + 1) <= limit {
-        root += 1;
+    for place in [10_000, 1_000, 100, 10, 1] {
+        while (root + place) * (root + place) * (root + place) <= limit {
+            root += place;
+        }
     }
     root
 }
 
 /// B: solids of the bottom sludge, g/m3.
 pub fn bottom_solids(cube_root: u64, sludge_volume_index: u64) -> u64 {
-    down(1000 * cube_root, sludge_volume_index)
+    down(100 * cube_root, sludge_volume_index)
 }
 
 /// w: return sludge solids over bottom sludge solids, tenths.

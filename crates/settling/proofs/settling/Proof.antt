@@ -4,6 +4,7 @@ use mathlib.Core.Path.{sym, subst}
 use Prim.Native.Nat.{_*_, _≤_}
 use borrow.Author.Needs.{needs}
 use native.Mathlib.Omega.{arith}
+use Rattle.rules.specs.Limits.{leastBottom, mostBottom}
 use Rattle.rules.specs.Ranges.{Between, SettlingBounds}
 use Rattle.settling.proofs.Limits.{known, root-limits, bottom-index, bottom-limits, solids-index}
 use Rattle.settling.proofs.Bounds.{settling-bounds, tank-figures}
@@ -11,10 +12,10 @@ use Rattle.settling.proofs.settling.Statement.{statement}
 use Rattle.settling.proofs.settling.Tie as tie
 
 -- the bottom sludge, and its product with the index, by the definition that the caller names
-settled : (c : tie.Start) → Between 6_200 28_000 (c .args .bottom)
+settled : (c : tie.Start) → Between leastBottom mostBottom (c .args .bottom)
 settled c = known (c .pre .1) (bottom-limits (root-limits (c .pre .0 .2)) (c .pre .0 .0 .index)) .1
 
-index-product : (c : tie.Start) → c .args .bottom * c .args .plant .«sludge_volume_index» ≤ 1_357_000
+index-product : (c : tie.Start) → c .args .bottom * c .args .plant .«sludge_volume_index» ≤ 1_357_200
 index-product c = rw (c .pre .1) (bottom-index (c .args .plant .«sludge_volume_index») (root-limits (c .pre .0 .2)))
 
 return-sludge-requires : tie.Need-return-sludge-requires

@@ -73,5 +73,6 @@ pub fn all() -> Collection {
     pauses::one_rounding(&mut cases, &mut random);
     pauses::ends(&mut cases);
     pauses::choices(&mut cases, &mut random);
+    settling::finer(&mut cases, &mut random);
     cases
 }

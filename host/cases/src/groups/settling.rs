@@ -40,6 +40,35 @@ fn by_flow(
     }
 }
 
+/// Rule 8 by the root's fourth digit, and every thickening time at an index
+/// of 50, where a digit of the root moves the solids most.
+pub fn finer(cases: &mut Collection, random: &mut Random) {
+    let lines = OnLines::find();
+    some(
+        cases,
+        random,
+        "kept by the fourth digit",
+        &lines.kept_by_digit,
+        6,
+    );
+    some(
+        cases,
+        random,
+        "broken by the fourth digit",
+        &lines.broken_by_digit,
+        6,
+    );
+    for time in 20..=25 {
+        for (removal, ratio) in [(1, 30), (0, 60)] {
+            let plant = roomy()
+                .with(SLUDGE_VOLUME_INDEX, 50)
+                .with(REMOVAL, removal)
+                .with_candidate(310, ratio, time);
+            cases.examine("index of 50", plant);
+        }
+    }
+}
+
 pub fn tanks(cases: &mut Collection, random: &mut Random) {
     let lines = OnLines::find();
     some(cases, random, "solids at 1,000", &lines.least_solids, 4);

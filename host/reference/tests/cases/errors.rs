@@ -74,7 +74,7 @@ fn loading_after_the_overflow_rate_limit() {
     assert!(storage < wrong_storage);
     let depth = 500
         + settling::separation_depth(1_600, 50, volume)
-        + settling::thickening_depth(found.solids, 1_600, 50, 20, 25_180);
+        + settling::thickening_depth(found.solids, 1_600, 50, 20, 25_198);
     assert_eq!(found.settling_depth, depth + storage);
     assert!(found.settling_depth > 3_000);
 }

@@ -117,11 +117,12 @@ fn examining() {
     assert_eq!(of(&plant, candidate(300, 92, 20)), 16);
     plant.consent = consent(&[term(11, 13_000)]);
     assert_eq!(of(&plant, candidate(300, 92, 20)), 8);
-    assert_eq!(of(&plant, candidate(300, 91, 20)), 9);
+    assert_eq!(of(&plant, candidate(300, 91, 20)), 8);
+    assert_eq!(of(&plant, candidate(300, 90, 20)), 9);
     plant.site_surface = 1_000;
-    assert_eq!(of(&plant, candidate(300, 91, 20)), 10);
+    assert_eq!(of(&plant, candidate(300, 90, 20)), 10);
     plant.site_depth = 10_000;
-    assert_eq!(of(&plant, candidate(300, 91, 20)), 0);
+    assert_eq!(of(&plant, candidate(300, 90, 20)), 0);
 }
 
 #[test]
@@ -132,9 +133,9 @@ fn site_limits_are_inclusive() {
         plant.site_depth = depth;
         number(&plant, &readings_a(), candidate_a())
     };
-    assert_eq!(at(454, 4_537), 0);
-    assert_eq!(at(453, 4_537), 9);
-    assert_eq!(at(454, 4_536), 10);
+    assert_eq!(at(454, 4_536), 0);
+    assert_eq!(at(453, 4_536), 9);
+    assert_eq!(at(454, 4_535), 10);
 }
 
 #[test]
@@ -145,7 +146,7 @@ fn limits_of_solids() {
     let mut plant = plant_a();
     plant.sludge_volume_index = 180;
     plant.removal = Removal::Suction;
-    // R is 3,497: E is 999 at 40 and 1,016 at 41.
+    // R is 3,499: E is 999 at 40 and 1,017 at 41.
     assert_eq!(number(&plant, &readings_a(), candidate(300, 40, 20)), 8);
     assert_eq!(number(&plant, &readings_a(), candidate(300, 41, 20)), 0);
 }
@@ -162,7 +163,7 @@ fn nothing_permitted() {
     plant.site_surface = 374;
     assert_eq!(at(&plant), 5);
     // The least depth with E from 1,000 on is 3,508 mm, at 37 and 24: E is
-    // 1,003, V 181 and q 2,000; 500 + 1,673 + 447 + 888.
+    // 1,004, V 181 and q 2,000; 500 + 1,673 + 447 + 888.
     let mut plant = plant_a();
     plant.sludge_volume_index = 180;
     plant.tank_flow = TankFlow::Vertical;

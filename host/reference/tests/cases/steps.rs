@@ -91,25 +91,29 @@ fn removal_of_sludge() {
     assert_eq!(settling::return_solids(Removal::Hopper, 12_591), 12_591);
 }
 
+/// V is 597 and q 650,000 / 597 = 1,088.8. Depth: 1,033,600 / 403 = 2,564.8;
+/// 649.5 and 9 x 650 x 190 / 1000 = 1,111.5; 24,669,964,800 / 12,599,000 =
+/// 1,958.1. Reactor 11,733,000 / 5,967 = 1,966.3, surface 600,000 / 1,088 =
+/// 551.5, settling 552 x 6,136 / 1000 = 3,387.1.
 #[test]
 fn vertical_tank_with_hopper() {
     let mut plant = plant_a();
     plant.tank_flow = TankFlow::Vertical;
     plant.removal = Removal::Hopper;
     plant.site_depth = 10_000;
-    assert_eq!(settling::separation_depth(1_083, 91, 600), 2_586);
-    assert_eq!(settling::storage_depth(1_083, 91, 600), 1_118);
+    assert_eq!(settling::separation_depth(1_088, 90, 597), 2_565);
+    assert_eq!(settling::storage_depth(1_088, 90, 597), 1_112);
     assert_eq!(
-        settling::thickening_depth(5_998, 1_083, 91, 20, 12_590),
-        1_971
+        settling::thickening_depth(5_967, 1_088, 90, 20, 12_599),
+        1_959
     );
-    let found = sheet(examine(&plant, &readings_a(), candidate(300, 91, 20)));
-    assert_eq!(found.solids, 5_998);
-    assert_eq!(found.reactor_volume, 1_957);
-    assert_eq!(found.settling_surface, 555);
-    assert_eq!(found.settling_depth, 6_175);
-    assert_eq!(found.settling_volume, 3_428);
-    assert_eq!(found.total_volume, 5_385);
+    let found = sheet(examine(&plant, &readings_a(), candidate(300, 90, 20)));
+    assert_eq!(found.solids, 5_967);
+    assert_eq!(found.reactor_volume, 1_967);
+    assert_eq!(found.settling_surface, 552);
+    assert_eq!(found.settling_depth, 6_136);
+    assert_eq!(found.settling_volume, 3_388);
+    assert_eq!(found.total_volume, 5_355);
 }
 
 #[test]
@@ -189,9 +193,14 @@ fn sludge_just_beside_a_whole_number() {
 
 #[test]
 fn bottom_sludge() {
-    // 1,000 is the cube root of 10 x 100,000,000.
-    assert_eq!(settling::cube_root(10), 1_000);
-    assert_eq!(settling::bottom_solids(1_259, 70), 17_985);
+    // 10,000 is the cube root of 10 x 100,000,000,000.
+    assert_eq!(settling::cube_root(10), 10_000);
+    let roots = [12_599, 12_805, 13_005, 13_200, 13_388, 13_572];
+    assert_eq!([20, 21, 22, 23, 24, 25].map(settling::cube_root), roots);
+    // 1,259,900 / 50, 51, 70 and 180: 25,198, 24,703.9, 17,998.6 and 6,999.4.
+    for (index, bottom) in [(50, 25_198), (51, 24_703), (70, 17_998), (180, 6_999)] {
+        assert_eq!(settling::bottom_solids(12_599, index), bottom);
+    }
 }
 
 #[test]
