@@ -25,89 +25,64 @@ pub record Tallied (p : Plant) (x : Concentrations) (k fraction tank : ℕ) : Ty
   pub byFraction : fractionCount p x fractions k ≡ fraction
   pub byTank : tankCount p (ratios (p .tank)) times k ≡ tank
 
-permitted-by : (p : Plant) (x : Concentrations) (f t : ℕ) → Tallied p x 0 f t → counted p x 0 ≡ f * t
-permitted-by p x f t kept = count-kept p x ∙ ap₂ _*_ (kept .byFraction) (kept .byTank)
+-- both tallies of a plant with n tanks: f fractions keep their rules and g break rule 7; t tanks keep theirs and s8, s9 and s10
+-- break 8, 9 and 10 first
+pub record Tallies (p : Plant) (x : Concentrations) (n f g t s8 s9 s10 : ℕ) : Type 0 where
+  pub tanks : ratios (p .tank) * times ≡ n
+  pub kept : Tallied p x 0 f t
+  pub nitrate : Tallied p x 7 g 0
+  pub solids : Tallied p x 8 0 s8
+  pub surface : Tallied p x 9 0 s9
+  pub depth : Tallied p x 10 0 s10
 
-broken-by :
-    (p : Plant) (x : Concentrations) (n f t : ℕ)
-    → ratios (p .tank) * times ≡ n
-    → Tallied p x 0 f t
-    → (k g s : ℕ) → (k ≡ 0 → ⊥) → Tallied p x k g s
-    → counted p x k ≡ g * n + f * s
-broken-by p x n f t tanks kept k g s apart broken =
-    count-broken p x k apart
-    ∙ ap₂ _+_ (ap₂ _*_ (broken .byFraction) tanks) (ap₂ _*_ (kept .byFraction) (broken .byTank))
+-- the counts that the tallies make: a fraction that breaks its rule counts with every tank, a tank with every fraction that
+-- keeps its own
+by-tallies :
+    (p : Plant) (x : Concentrations) (n f g t s8 s9 s10 : ℕ)
+    → Tallies p x n f g t s8 s9 s10
+    → Counted p x (f * t) (g * n + f * 0) (0 * n + f * s8) (0 * n + f * s9) (0 * n + f * s10)
+by-tallies p x n f g t s8 s9 s10 all =
+    record {
+      permitted = count-kept p x ∙ ap₂ _*_ (all .kept .byFraction) (all .kept .byTank);
+      nitrate = broken 7 g 0 (λ e. omega arith) (all .nitrate);
+      solids = broken 8 0 s8 (λ e. omega arith) (all .solids);
+      surface = broken 9 0 s9 (λ e. omega arith) (all .surface);
+      depth = broken 10 0 s10 (λ e. omega arith) (all .depth);
+    }
+  where
+    broken : (k fraction tank : ℕ) → (k ≡ 0 → ⊥) → Tallied p x k fraction tank → counted p x k ≡ fraction * n + f * tank
+    broken k fraction tank apart tally =
+        count-broken p x k apart
+        ∙ ap₂ _+_ (ap₂ _*_ (tally .byFraction) (all .tanks)) (ap₂ _*_ (all .kept .byFraction) (tally .byTank))
 
--- ---- Case A: 201 of 301 fractions are covered, and all 276 tanks keep their rules
-
-tanks-A : ratios (caseA .tank) * times ≡ 276
-unfolding steps
-tanks-A = refl
-
-kept-A : Tallied caseA concentrationsA 0 201 276
+-- Case A: 201 of 301 fractions are covered, and all 276 tanks keep their rules
+tallies-A : Tallies caseA concentrationsA 276 201 100 276 0 0 0
 unfolding steps fractionNumber tankNumber
-kept-A = record { byFraction = refl; byTank = refl }
-
-nitrate-A : Tallied caseA concentrationsA 7 100 0
-unfolding steps fractionNumber tankNumber
-nitrate-A = record { byFraction = refl; byTank = refl }
-
-solids-A : Tallied caseA concentrationsA 8 0 0
-unfolding steps fractionNumber tankNumber
-solids-A = record { byFraction = refl; byTank = refl }
-
-surface-A : Tallied caseA concentrationsA 9 0 0
-unfolding steps fractionNumber tankNumber
-surface-A = record { byFraction = refl; byTank = refl }
-
-depth-A : Tallied caseA concentrationsA 10 0 0
-unfolding steps fractionNumber tankNumber
-depth-A = record { byFraction = refl; byTank = refl }
+tallies-A =
+    record {
+      tanks = refl;
+      kept = record { byFraction = refl; byTank = refl };
+      nitrate = record { byFraction = refl; byTank = refl };
+      solids = record { byFraction = refl; byTank = refl };
+      surface = record { byFraction = refl; byTank = refl };
+      depth = record { byFraction = refl; byTank = refl };
+    }
 
 pub case-A : Counted caseA concentrationsA 55_476 27_600 0 0 0
-case-A =
-    let by = broken-by caseA concentrationsA 276 201 276 tanks-A kept-A in
+case-A = by-tallies caseA concentrationsA 276 201 100 276 0 0 0 tallies-A
+
+-- the vertical tank: 115 of 426 tanks keep their rules, 94 break rule 8 first, and 217 rule 10
+tallies-V : Tallies hopperPlant concentrationsA 426 201 100 115 94 0 217
+unfolding steps fractionNumber tankNumber
+tallies-V =
     record {
-      permitted = permitted-by caseA concentrationsA 201 276 kept-A;
-      nitrate = by 7 100 0 (λ e. omega arith) nitrate-A;
-      solids = by 8 0 0 (λ e. omega arith) solids-A;
-      surface = by 9 0 0 (λ e. omega arith) surface-A;
-      depth = by 10 0 0 (λ e. omega arith) depth-A;
+      tanks = refl;
+      kept = record { byFraction = refl; byTank = refl };
+      nitrate = record { byFraction = refl; byTank = refl };
+      solids = record { byFraction = refl; byTank = refl };
+      surface = record { byFraction = refl; byTank = refl };
+      depth = record { byFraction = refl; byTank = refl };
     }
-
--- ---- the vertical tank: 115 of 426 tanks keep their rules, 94 break rule 8 first, and 217 rule 10
-
-tanks-V : ratios (hopperPlant .tank) * times ≡ 426
-unfolding steps
-tanks-V = refl
-
-kept-V : Tallied hopperPlant concentrationsA 0 201 115
-unfolding steps fractionNumber tankNumber
-kept-V = record { byFraction = refl; byTank = refl }
-
-nitrate-V : Tallied hopperPlant concentrationsA 7 100 0
-unfolding steps fractionNumber tankNumber
-nitrate-V = record { byFraction = refl; byTank = refl }
-
-solids-V : Tallied hopperPlant concentrationsA 8 0 94
-unfolding steps fractionNumber tankNumber
-solids-V = record { byFraction = refl; byTank = refl }
-
-surface-V : Tallied hopperPlant concentrationsA 9 0 0
-unfolding steps fractionNumber tankNumber
-surface-V = record { byFraction = refl; byTank = refl }
-
-depth-V : Tallied hopperPlant concentrationsA 10 0 217
-unfolding steps fractionNumber tankNumber
-depth-V = record { byFraction = refl; byTank = refl }
 
 pub vertical : Counted hopperPlant concentrationsA 23_115 42_600 18_894 0 43_617
-vertical =
-    let by = broken-by hopperPlant concentrationsA 426 201 115 tanks-V kept-V in
-    record {
-      permitted = permitted-by hopperPlant concentrationsA 201 115 kept-V;
-      nitrate = by 7 100 0 (λ e. omega arith) nitrate-V;
-      solids = by 8 0 94 (λ e. omega arith) solids-V;
-      surface = by 9 0 0 (λ e. omega arith) surface-V;
-      depth = by 10 0 217 (λ e. omega arith) depth-V;
-    }
+vertical = by-tallies hopperPlant concentrationsA 426 201 100 115 94 0 217 tallies-V

@@ -1,9 +1,9 @@
 -- A call's outcome, by what writing on the page and what decoding the request gave. Assumes nothing.
 use mathlib.Core.Path.{_≡_, sym, _∙_}
-use mathlib.Core.List.{List}
+use mathlib.Core.List.{List, _++_}
 use Prim.Native.Nat.{ℕ, _≤_, _<_, _*_, _/_}
 use native.Mathlib.Omega.{arith}
-use lib.ListN.{length}
+use lib.ListN.{length, drop}
 use lib.Seq.{sets}
 use Rattle.rules.specs.Answers.{refusalNumber, answerNumber, writtenCount}
 use Rattle.rules.specs.Choosing.{Chosen}
@@ -41,6 +41,18 @@ module _ (answer : Answer) (page after : List ℕ) (w : Written) (done : Writes 
       let e : writing (listing answer) page ≡ Written.Refused r = sym (done .result) ∙ b in
       rw e (λ i. outcome (n i) (done .page i) 0)
 
+-- Too short a page gets 11 and is as it was, and no byte is counted as written, whatever was to be put on it; one that is long
+-- enough has the bytes first and then its own later ones, and as many are counted.
+pub short-page : (own : ℕ) (bytes page : List ℕ) → length page < length bytes → putOn own bytes page ≡ outcome 11 page 0
+unfolding putOn numberOf writtenCount
+short-page own bytes page short = rw (writing-long bytes page short, page-long bytes page short)
+
+pub long-page :
+    (own : ℕ) (bytes page : List ℕ) → length bytes ≤ length page
+    → putOn own bytes page ≡ outcome own (bytes ++ drop (length bytes) page) (length bytes)
+unfolding putOn numberOf writtenCount
+long-page own bytes page fits = rw (writing-fits bytes page fits, page-fits bytes page fits)
+
 module _ (own : ℕ) (figures page : List ℕ) where
   -- figures are on the page
   pub figures-fit :
@@ -57,10 +69,8 @@ module _ (own : ℕ) (figures page : List ℕ) where
   pub figures-short :
       (number : ℕ) → length page / 8 < length figures → number ≡ refusalNumber Refusal.ShortPage
       → outcome number page 0 ≡ putOn own (numberBytes figures) page
-  unfolding putOn numberOf writtenCount
   figures-short number short n =
-      let long : length page < length (numberBytes figures) = omega (arith, length-numbers figures) in
-      rw (writing-long (numberBytes figures) page long, page-long (numberBytes figures) page long) (λ i. outcome (n i) page 0)
+      (λ i. outcome (n i) page 0) ∙ sym (short-page own (numberBytes figures) page (omega (arith, length-numbers figures)))
 
 module _ (bytes page : List ℕ) (own : ℕ) (d : Decoded) (decoded : d ≡ decode bytes own) where
   -- a malformed request
