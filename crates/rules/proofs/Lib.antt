@@ -25,6 +25,7 @@ pub mod DesignFraction
 pub mod DesignTerm
 pub mod BulkingSludge
 pub mod Pauses
+pub mod TankApart
 pub mod NoDose
 pub mod StepsWithoutDose
 pub mod LargerDose

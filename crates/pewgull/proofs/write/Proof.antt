@@ -7,7 +7,7 @@ use Rattle.pewgull.proofs.write.Tie as tie
 returns : tie.Need-returns
 returns c =
     let written = c .before .before in
-    (search needs, writing-outcome _ _ (written .write .result) (written .write .ensures .result))
+    (written .write .ensures, writing-outcome _ _ (written .write .result) (written .write .ensures .result))
 
 pub write-spec : {M : Type 1} → statement M
 write-spec = tie.close (tie.spec (λ c κs. search needs) (λ c. search needs) returns)
