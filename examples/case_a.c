@@ -50,6 +50,7 @@ int main(void)
         0, 0, 0, 0, 0, 0,
         0, 0, 0, 0, 0, 0,
         0, 0, 0, 0, 0, 0,
+        0,                    /* way of sludge and oxygen: bod */
         300, 75, 20           /* fraction, return ratio, thickening time */
     };
     uint8_t request[PEWGULL_EXAMINE_LENGTH];

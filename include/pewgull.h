@@ -17,12 +17,12 @@
  *   - The page and *written overlap neither the request or log nor each other.
  *   - No alignment is needed for the request, the log or the page.
  *
- * The request, version 3: 32-bit unsigned numbers, little-endian, no padding.
+ * The request, version 4: 32-bit unsigned numbers, little-endian, no padding.
  * Data outside their ranges are refused with a number; every other number is
  * answered for.
  *
  *   word   bytes      what
- *   0      0..3       version: 3
+ *   0      0..3       version: 4
  *   1      4..7       raw BOD5 load, 1..100000 kg/d
  *   2      8..11      daily flow, 1..200000 m3/d
  *   3      12..15     wet weather flow, 1..50000 m3/h
@@ -52,10 +52,11 @@
  *                     nothing is dosed
  *   30     120..123   number of terms of the consent, 0..4
  *   31..54 124..219   four entries for terms, of six words each
+ *   55     220..223   way of sludge and oxygen: 0 bod, 1 cod
  *                     A request to choose or for a census ends here.
- *   55     220..223   fraction, 200..500 thousandths
- *   56     224..227   return ratio, 30..75 (vertical flow 30..100) hundredths
- *   57     228..231   thickening time, 20..25 tenths of an hour
+ *   56     224..227   fraction, 200..500 thousandths
+ *   57     228..231   return ratio, 30..75 (vertical flow 30..100) hundredths
+ *   58     232..235   thickening time, 20..25 tenths of an hour
  *                     A request to examine or to explain ends here.
  *
  *   A term of the consent, by its six words: month and day of its first day,
@@ -70,6 +71,13 @@
  *   mg/l; 1 below a limit, the bits of the limit in mg/l, of which half
  *   counts; 2 head count, 1..2000000. The range is that of the concentration
  *   that comes out.
+ *
+ *   The way says what carbon sludge and carbon's oxygen come from: the BOD, or
+ *   the COD by the appendix of A 131E (docs/cod-way.md). Where it is the COD,
+ *   4 is never due; a dose above 10000 mg/m3 adds sludge; and in the
+ *   simultaneous and the intermittent process the nitrate that the tank's own
+ *   carbon removes comes from that oxygen, in every term too. The other
+ *   processes remove it by the BOD in both ways.
  *
  * A sheet's listing: fifteen lines, each a label, a space, a decimal number
  * and a newline
@@ -102,12 +110,12 @@ extern "C" {
 #endif
 
 /* Word 0 of a request. */
-#define PEWGULL_VERSION 3
+#define PEWGULL_VERSION 4
 
 /* Lengths of a request, in bytes. */
-#define PEWGULL_CHOOSE_LENGTH 220
-#define PEWGULL_EXAMINE_LENGTH 232
-#define PEWGULL_EXPLAIN_LENGTH 232
+#define PEWGULL_CHOOSE_LENGTH 224
+#define PEWGULL_EXAMINE_LENGTH 236
+#define PEWGULL_EXPLAIN_LENGTH 236
 #define PEWGULL_TARGET_LENGTH 112
 
 /* A page of this length takes every listing. */
@@ -130,7 +138,7 @@ extern "C" {
 #define PEWGULL_PLANT_DATA 1     /* a plant or site figure outside its range */
 #define PEWGULL_NO_NUMBER 2      /* a reading not finite, or below zero */
 #define PEWGULL_READING_RANGE 3  /* a head count or a result outside its range */
-#define PEWGULL_COD_RATIO 4      /* 5 COD > 11 BOD */
+#define PEWGULL_COD_RATIO 4      /* 5 COD > 11 BOD, where the way is bod */
 #define PEWGULL_NO_DESIGN 5      /* no candidate of the grid is permitted */
 #define PEWGULL_OFF_GRID 6       /* the candidate is not on the grid */
 #define PEWGULL_NITRATE 7        /* the nitrate is not covered */
@@ -178,7 +186,8 @@ uint32_t pewgull_choose(const uint8_t *request, size_t request_length,
  *
  *   bytes    what                                   held to
  *   0..7     nitrate to be removed, mg/m3
- *   8..15    nitrate removed by the tank's BOD, mg/m3
+ *   8..15    nitrate removed by the tank's BOD, or
+ *            by its COD (see below), mg/m3
  *   16..23   nitrate removed by the dose, mg/m3
  *   24..31   nitrate the tank can remove, the sum   at least the first (7)
  *            of the two before it, mg/m3
@@ -199,12 +208,16 @@ uint32_t pewgull_choose(const uint8_t *request, size_t request_length,
  *   80..87   fraction in the term, thousandths: the
  *            smaller of the candidate's and 1,000
  *            less the share; under 200 the tank's
- *            BOD removes nothing
+ *            BOD or COD removes nothing
  *   88..95   nitrate to be removed there, mg/m3
  *   96..103  nitrate removed there by the tank's
- *            BOD, mg/m3
+ *            BOD or COD, mg/m3
  *   104..111 nitrate the tank can remove there,     at least the third
  *            with what the dose removes, mg/m3      (16)
+ *
+ * Where the way is cod and the process simultaneous or intermittent, the
+ * nitrate of bytes 8..15 and 96..103 is reckoned from the COD; everywhere else
+ * from the BOD.
  *
  * Gives 1, 17, 2 to 4, 14 or 6 and writes 232 bytes of zeros. Gives 11 for a page of
  * fewer than 232 bytes, or 101 to 103, and writes nothing.
@@ -275,7 +288,7 @@ uint32_t pewgull_load(const uint8_t *log, size_t log_length,
  * PEWGULL_TARGET_LENGTH bytes of its own:
  *
  *   word   bytes      what
- *   0      0..3       version: 3
+ *   0      0..3       version: 4
  *   1      4..7       number of terms, 0..4
  *   2..25  8..103     four entries for terms, of six words each, as above
  *   26     104..107   month of the date asked for

@@ -9,11 +9,12 @@ use denote.Floats.{passes}
 use Rattle.rules.specs.Limits.{mostIndex}
 use Rattle.rules.specs.Rules.{Rule, rule, verdict, after}
 use Rattle.rules.specs.PlantData.{plantInRange}
-use Rattle.rules.specs.LabReadings.{resultInRange, headsInRange, readingNoNumber, readingInRange, readingValue, codRatioBroken}
+use Rattle.rules.specs.LabReadings.{resultInRange, headsInRange, readingNoNumber, readingInRange, readingValue, ratioRefused}
 use Rattle.rules.specs.Consent.{consentValid}
 use Rattle.rules.specs.Accepting.{valuesOf, readingRules, readingsRules, termsRule, dataRules, acceptBy, accept}
 use Rattle.rules.specs.declared.Plant.{Plant}
 use Rattle.rules.specs.declared.PrimarySettling.{PrimarySettling}
+use Rattle.rules.specs.declared.Way.{Way}
 use Rattle.rules.specs.declared.Parameter.{Parameter}
 use Rattle.rules.specs.declared.Reading.{Reading}
 use Rattle.rules.specs.declared.Readings.{Readings}
@@ -58,20 +59,20 @@ converted-most q s k r = go (readingNoNumber r) (readingInRange q s k r) refl
     go false true e = result-most k (readingValue q s k r) (and-r (headsInRange r) (resultInRange k (readingValue q s k r)) (passes (readingInRange q s k r) e))
 
 -- rule 4 alone
-abbrev ratio : ℕ → ℕ → List Rule
-ratio c o = rule Refusal.CodRatio (not (codRatioBroken c o)) ∷ []
+abbrev ratio : Way → ℕ → ℕ → List Rule
+ratio way c o = rule Refusal.CodRatio (not (ratioRefused way c o)) ∷ []
 
 gather-by-rules :
-    (v w x y z : Verdict) (c o s n p : ℕ)
-    → gather (converted v c) (converted w o) (converted x s) (converted y n) (converted z p)
-    ≡ acceptBy (after v (after w (after x (after y (after z (verdict (ratio c o))))))) (record { bod = c; cod = o; solids = s; nitrogen = n; phosphorus = p })
+    (way : Way) (v w x y z : Verdict) (c o s n p : ℕ)
+    → gather way (converted v c) (converted w o) (converted x s) (converted y n) (converted z p)
+    ≡ acceptBy (after v (after w (after x (after y (after z (verdict (ratio way c o))))))) (record { bod = c; cod = o; solids = s; nitrogen = n; phosphorus = p })
 unfolding gather acceptBy
-gather-by-rules (Verdict.Broken m) w x y z c o s n p = refl
-gather-by-rules Verdict.Kept (Verdict.Broken m) x y z c o s n p = refl
-gather-by-rules Verdict.Kept Verdict.Kept (Verdict.Broken m) y z c o s n p = refl
-gather-by-rules Verdict.Kept Verdict.Kept Verdict.Kept (Verdict.Broken m) z c o s n p = refl
-gather-by-rules Verdict.Kept Verdict.Kept Verdict.Kept Verdict.Kept (Verdict.Broken m) c o s n p = refl
-gather-by-rules Verdict.Kept Verdict.Kept Verdict.Kept Verdict.Kept Verdict.Kept c o s n p = go (codRatioBroken c o)
+gather-by-rules way (Verdict.Broken m) w x y z c o s n p = refl
+gather-by-rules way Verdict.Kept (Verdict.Broken m) x y z c o s n p = refl
+gather-by-rules way Verdict.Kept Verdict.Kept (Verdict.Broken m) y z c o s n p = refl
+gather-by-rules way Verdict.Kept Verdict.Kept Verdict.Kept (Verdict.Broken m) z c o s n p = refl
+gather-by-rules way Verdict.Kept Verdict.Kept Verdict.Kept Verdict.Kept (Verdict.Broken m) c o s n p = refl
+gather-by-rules way Verdict.Kept Verdict.Kept Verdict.Kept Verdict.Kept Verdict.Kept c o s n p = go (ratioRefused way c o)
   where
     go :
         (b : Bool)
@@ -105,7 +106,7 @@ module _ (p : Plant) (r : Readings) where
       (after (verdict (of Parameter.Cod (r .cod)))
       (after (verdict (of Parameter.Solids (r .solids)))
       (after (verdict (of Parameter.Nitrogen (r .nitrogen)))
-      (after (verdict (of Parameter.Phosphorus (r .phosphorus))) (verdict (ratio (valuesOf p r .bod) (valuesOf p r .cod)))))))
+      (after (verdict (of Parameter.Phosphorus (r .phosphorus))) (verdict (ratio (p .way) (valuesOf p r .bod) (valuesOf p r .cod)))))))
   in-turn =
       judged-in-turn
       (of Parameter.Bod (r .bod))
@@ -113,13 +114,13 @@ module _ (p : Plant) (r : Readings) where
       (of Parameter.Solids (r .solids))
       (of Parameter.Nitrogen (r .nitrogen))
       (of Parameter.Phosphorus (r .phosphorus))
-      (ratio (valuesOf p r .bod) (valuesOf p r .cod))
+      (ratio (p .way) (valuesOf p r .bod) (valuesOf p r .cod))
 
-  gathered : acceptReadings (p .flow) (p .«primary_settling») r ≡ acceptBy (verdict (readingsRules p r)) (valuesOf p r)
+  gathered : acceptReadings (p .flow) (p .«primary_settling») (p .way) r ≡ acceptBy (verdict (readingsRules p r)) (valuesOf p r)
   unfolding acceptReadings valuesOf
   gathered =
       rw (in-turn, convert-by-rules, convert-by-rules, convert-by-rules, convert-by-rules, convert-by-rules)
-      (gather-by-rules
+      (gather-by-rules (p .way)
       (verdict (of Parameter.Bod (r .bod)))
       (verdict (of Parameter.Cod (r .cod)))
       (verdict (of Parameter.Solids (r .solids)))
@@ -137,7 +138,7 @@ module _ (p : Plant) (r : Readings) where
   index-too-high e h = sym (bulking-due p r .1 (passes _ e, h))
 
   -- neither is due: the readings decide, and then the terms
-  pub in-range : plantInRange p ≡ true → p .«sludge_volume_index» ≤ mostIndex → thenTerms (acceptReadings (p .flow) (p .«primary_settling») r) (consentValid (p .consent)) ≡ accept p r
+  pub in-range : plantInRange p ≡ true → p .«sludge_volume_index» ≤ mostIndex → thenTerms (acceptReadings (p .flow) (p .«primary_settling») (p .way) r) (consentValid (p .consent)) ≡ accept p r
   unfolding accept dataRules
   in-range e h =
       ap (λ (o : Acceptance). thenTerms o (consentValid (p .consent))) gathered

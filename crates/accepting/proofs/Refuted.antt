@@ -126,6 +126,7 @@ unfolding
     LabReadings.readingInRange
     convert
     codRatioBroken
+    LabReadings.ratioRefused
     valuesOf
     Accepting.dataRules
     acceptBy

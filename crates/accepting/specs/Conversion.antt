@@ -2,8 +2,9 @@
 -- proofs/Conversions.antt and proofs/Gathering.antt prove that they are document 01's rules 2 to 4. Assumes nothing.
 use Prim.Native.Nat.{ℕ}
 use mathlib.Core.Bool.{Bool, cond}
-use Rattle.rules.specs.LabReadings.{resultInRange, readingNoNumber, readingInRange, readingValue, codRatioBroken}
+use Rattle.rules.specs.LabReadings.{resultInRange, readingNoNumber, readingInRange, readingValue, ratioRefused}
 use Rattle.rules.specs.declared.PrimarySettling.{PrimarySettling}
+use Rattle.rules.specs.declared.Way.{Way}
 use Rattle.rules.specs.declared.Parameter.{Parameter}
 use Rattle.rules.specs.declared.Refusal.{Refusal}
 use Rattle.rules.specs.declared.Reading.{Reading}
@@ -40,20 +41,20 @@ convert q s k r =
     (cond (readingInRange q s k r) (Converted.Value (readingValue q s k r)) (Converted.Refused Refusal.ReadingRange))
 
 -- the five readings in turn: the first refusal, then 4, else accepted
-unfoldable pub gather : Converted → Converted → Converted → Converted → Converted → Acceptance
-gather (Converted.Refused n) cod solids nitrogen phosphorus = Acceptance.Refused n
-gather (Converted.Value c) (Converted.Refused n) solids nitrogen phosphorus = Acceptance.Refused n
-gather (Converted.Value c) (Converted.Value o) (Converted.Refused n) nitrogen phosphorus = Acceptance.Refused n
-gather (Converted.Value c) (Converted.Value o) (Converted.Value x) (Converted.Refused n) phosphorus = Acceptance.Refused n
-gather (Converted.Value c) (Converted.Value o) (Converted.Value x) (Converted.Value n) (Converted.Refused m) = Acceptance.Refused m
-gather (Converted.Value c) (Converted.Value o) (Converted.Value x) (Converted.Value n) (Converted.Value p) =
-    cond (codRatioBroken c o) (Acceptance.Refused Refusal.CodRatio)
+unfoldable pub gather : Way → Converted → Converted → Converted → Converted → Converted → Acceptance
+gather way (Converted.Refused n) cod solids nitrogen phosphorus = Acceptance.Refused n
+gather way (Converted.Value c) (Converted.Refused n) solids nitrogen phosphorus = Acceptance.Refused n
+gather way (Converted.Value c) (Converted.Value o) (Converted.Refused n) nitrogen phosphorus = Acceptance.Refused n
+gather way (Converted.Value c) (Converted.Value o) (Converted.Value x) (Converted.Refused n) phosphorus = Acceptance.Refused n
+gather way (Converted.Value c) (Converted.Value o) (Converted.Value x) (Converted.Value n) (Converted.Refused m) = Acceptance.Refused m
+gather way (Converted.Value c) (Converted.Value o) (Converted.Value x) (Converted.Value n) (Converted.Value p) =
+    cond (ratioRefused way c o) (Acceptance.Refused Refusal.CodRatio)
     (Acceptance.Accepted (record { bod = c; cod = o; solids = x; nitrogen = n; phosphorus = p }))
 
--- the readings of a plant with the daily flow Q and the primary settling
-unfoldable pub acceptReadings : ℕ → PrimarySettling → Readings → Acceptance
-acceptReadings q s r =
-    gather
+-- the readings of a plant with the daily flow Q, the primary settling and the way
+unfoldable pub acceptReadings : ℕ → PrimarySettling → Way → Readings → Acceptance
+acceptReadings q s way r =
+    gather way
     (convert q s Parameter.Bod (r .bod))
     (convert q s Parameter.Cod (r .cod))
     (convert q s Parameter.Solids (r .solids))

@@ -8,11 +8,12 @@ use rules::PrimarySettling;
 use rules::Reading;
 use rules::Readings;
 use rules::Refusal;
+use rules::Way;
 ghost use mathlib.Core.Path.{_≡_};
 ghost use Prim.Native.Nat.{_<_, _≤_, _^_};
 ghost use lib.Ieee.Nearest.{closest};
 ghost use Rattle.rules.specs.PlantData.{plantInRange};
-ghost use Rattle.rules.specs.LabReadings.{noNumber, perHead, resultInRange};
+ghost use Rattle.rules.specs.LabReadings.{noNumber, perHead, resultInRange, ratioRefused};
 ghost use Rattle.rules.specs.Accepting.{accept};
 ghost use Rattle.rules.specs.Ranges.{Between};
 ghost use Rattle.accepting.specs.CutOff.{measurement};
@@ -203,8 +204,20 @@ pub fn convert(
     }
 }
 
+// 4: the COD is too high beside the BOD, in the way by BOD.
+fn ratio_refused(way: Way, bod: u64, cod: u64) -> bool
+    requires { ⌜ (bod ≤ 4_400_000) × (cod ≤ 4_400_000) ⌝ }
+    ensures { λ r. ⌜ r ≡ ratioRefused way bod cod ⌝ }
+{
+    match way {
+        Way::Bod => 11 * bod < 5 * cod,
+        Way::Cod => false,
+    }
+}
+
 // The last three results in turn, with values for BOD and COD: the first refusal, then 4, else accepted.
 fn gather_rest(
+    way: Way,
     bod: u64,
     cod: u64,
     solids: Converted,
@@ -212,7 +225,7 @@ fn gather_rest(
     phosphorus: Converted,
 ) -> Acceptance
     requires { ⌜ (bod ≤ 4_400_000) × (cod ≤ 4_400_000) ⌝ }
-    ensures { λ r. ⌜ r ≡ gather (Converted.Value bod) (Converted.Value cod) solids nitrogen phosphorus ⌝ }
+    ensures { λ r. ⌜ r ≡ gather way (Converted.Value bod) (Converted.Value cod) solids nitrogen phosphorus ⌝ }
 {
     let solids = match solids {
         Converted::Value(n) => n,
@@ -226,7 +239,7 @@ fn gather_rest(
         Converted::Value(n) => n,
         Converted::Refused(refusal) => return Acceptance::Refused(refusal),
     };
-    if 11 * bod < 5 * cod {
+    if ratio_refused(way, bod, cod) {
         return Acceptance::Refused(Refusal::CodRatio);
     }
     Acceptance::Accepted(Concentrations {
@@ -240,6 +253,7 @@ fn gather_rest(
 
 // The five results in turn.
 fn gather(
+    way: Way,
     bod: Converted,
     cod: Converted,
     solids: Converted,
@@ -247,7 +261,7 @@ fn gather(
     phosphorus: Converted,
 ) -> Acceptance
     requires { ⌜ (valueOf bod ≤ 4_400_000) × (valueOf cod ≤ 4_400_000) ⌝ }
-    ensures { λ r. ⌜ r ≡ gather bod cod solids nitrogen phosphorus ⌝ }
+    ensures { λ r. ⌜ r ≡ gather way bod cod solids nitrogen phosphorus ⌝ }
 {
     let bod = match bod {
         Converted::Value(n) => n,
@@ -257,13 +271,13 @@ fn gather(
         Converted::Value(n) => n,
         Converted::Refused(refusal) => return Acceptance::Refused(refusal),
     };
-    gather_rest(bod, cod, solids, nitrogen, phosphorus)
+    gather_rest(way, bod, cod, solids, nitrogen, phosphorus)
 }
 
-// The readings of a plant with this daily flow and primary settling.
-fn accept_readings(flow: u32, settling: PrimarySettling, readings: Readings) -> Acceptance
+// The readings of a plant with this daily flow, primary settling and way.
+fn accept_readings(flow: u32, settling: PrimarySettling, way: Way, readings: Readings) -> Acceptance
     requires { ⌜ 0 < flow ⌝ }
-    ensures { λ r. ⌜ r ≡ acceptReadings flow settling readings ⌝ }
+    ensures { λ r. ⌜ r ≡ acceptReadings flow settling way readings ⌝ }
 {
     let bod = readings.bod;
     let cod = readings.cod;
@@ -275,7 +289,7 @@ fn accept_readings(flow: u32, settling: PrimarySettling, readings: Readings) -> 
     let solids = convert(flow, settling, Parameter::Solids, solids);
     let nitrogen = convert(flow, settling, Parameter::Nitrogen, nitrogen);
     let phosphorus = convert(flow, settling, Parameter::Phosphorus, phosphorus);
-    gather(bod, cod, solids, nitrogen, phosphorus)
+    gather(way, bod, cod, solids, nitrogen, phosphorus)
 }
 
 // 14, once plant data and readings have their answer: a refusal of them stands.
@@ -306,6 +320,7 @@ pub fn accept(plant: Plant, readings: Readings) -> Acceptance
     }
     let settling = plant.primary_settling;
     let consent = plant.consent;
-    let answer = accept_readings(plant.flow, settling, readings);
+    let way = plant.way;
+    let answer = accept_readings(plant.flow, settling, way, readings);
     then_terms(answer, consents::consent_valid(consent))
 }

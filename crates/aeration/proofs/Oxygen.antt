@@ -1,5 +1,6 @@
--- Limits of the oxygen figures, and that denitrification saves no more oxygen than carbon takes where the nitrate is
+-- Limits of the oxygen figures, and that by BOD denitrification saves no more oxygen than carbon takes where the nitrate is
 -- covered: 29 · K ≤ 5,600 for every K up to 193. Assumes nothing.
+use mathlib.Core.Path.{_≡_}
 use Prim.Native.Nat.{ℕ, _+_, _-_, _*_, _≤_}
 use native.Mathlib.Nat.{mul-le-mul, mul-le-mul-left, le-trans}
 use native.Mathlib.Omega.{arith}
@@ -10,6 +11,7 @@ use Rattle.rules.specs.Ranges.{Between, GridFraction, PlantRanges}
 use Rattle.rules.specs.ReactorSteps.{reactorOf}
 use Rattle.rules.specs.declared.Plant.{Plant}
 use Rattle.rules.specs.declared.Concentrations.{Concentrations}
+use Rattle.rules.specs.declared.Way.{Way}
 use Rattle.rules.proofs.Quotients.{up-le}
 use Rattle.rules.proofs.Examined.{FractionKept}
 use Rattle.rules.proofs.NitrateColumns.{left-covered, fraction-covered}
@@ -25,7 +27,7 @@ pub carbon-product : (flow bod uptake : ℕ) → flow ≤ 200_000 → bod ≤ 2_
 carbon-product flow bod uptake hf hb hu = mul-le-mul (mul-le-mul hf hb) hu
 
 -- the product that the transfer with pauses rounds, and what it is divided by
-pub paused-product : (saturation hourly : ℕ) → saturation ≤ 15_000 → hourly ≤ 126_000_000 → 1000 * saturation * hourly ≤ 1_890_000_000_000_000
+pub paused-product : (saturation hourly : ℕ) → saturation ≤ 15_000 → hourly ≤ 164_000_000 → 1000 * saturation * hourly ≤ 2_460_000_000_000_000
 paused-product saturation hourly hs hh = omega (arith, mul-le-mul hs hh)
 
 pub paused-divisor : (saturation fraction : ℕ) → Between 6_000 15_000 saturation → GridFraction fraction → Between 2_000_000 10_400_000 ((saturation - 2_000) * (1000 - fraction))
@@ -44,16 +46,17 @@ saved-at-most flow bod uptake removes d hu hk cover =
     let taken : flow * bod * 560 ≤ flow * bod * uptake = mul-le-mul-left (flow * bod) hu in
     omega arith
 
--- the same of every fraction of the grid that keeps its rules, with plant data in range, whatever the dose
+-- the same by BOD of every fraction of the grid that keeps its rules, with plant data in range, whatever the dose
 pub saved-at-most-carbon :
     (p : Plant) (x : Concentrations) (f u : ℕ)
+    → p .way ≡ Way.Bod
     → PlantRanges p
     → GridFraction f
     → FractionKept p x f
     → savedOxygen (p .flow) (denitrifiedByBod (reactorOf p x f .denitrified) (reactorOf p x f .«removed_by_dose»))
     ≤ carbonOxygen (p .flow) (x .bod) (aerationUptake u)
 unfolding aerationUptake denitrifiedByBod
-saved-at-most-carbon p x f u hp hf kept =
+saved-at-most-carbon p x f u bod hp hf kept =
     saved-at-most (p .flow) (x .bod) (560 + up (15000 * u) (100000 + 17 * u)) (reactorOf p x f .removes) _ (omega arith)
-    (removes-most p x f hp hf)
+    (removes-most p x f bod hp hf)
     (left-covered (reactorOf p x f .removes) (reactorOf p x f .«removed_by_dose») (reactorOf p x f .denitrified) (fraction-covered p x f kept))

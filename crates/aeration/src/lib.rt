@@ -4,11 +4,12 @@ use rules::Concentrations;
 use rules::Plant;
 use rules::Process;
 use rules::Reactor;
+use rules::Way;
 ghost use mathlib.Core.Path.{_≡_};
 ghost use Prim.Native.Nat.{_-_, _*_, _≤_};
 ghost use Rattle.rules.specs.Rounding.{up};
 ghost use Rattle.rules.specs.Limits.{mostNitrogen};
-ghost use Rattle.rules.specs.AerationSteps.{aerationUptake, carbonOxygen, nitrificationOxygen, denitrifiedByBod, savedOxygen, hourlyOxygen, oxygenTransfer, pausedTransfer, transferOf, recirculation, aerationOf};
+ghost use Rattle.rules.specs.AerationSteps.{aerationUptake, carbonOxygen, carbonOxygenIn, nitrificationOxygen, denitrifiedByBod, savedOxygen, hourlyOxygen, oxygenTransfer, pausedTransfer, transferOf, recirculation, aerationOf};
 ghost use Rattle.rules.specs.Ranges.{Between, GridFraction, PlantRanges, ConcentrationRanges, ReactorBounds};
 
 // Specific oxygen uptake for aeration, g/kg.
@@ -25,6 +26,20 @@ fn carbon_oxygen(flow: u64, bod: u64, uptake: u64) -> u64
     ensures { λ r. ⌜ (r ≡ carbonOxygen flow bod uptake) × (r ≤ 577_200_000) ⌝ }
 {
     rounding::round_up(flow * bod * uptake, 1_000_000)
+}
+
+// The same in a way, from U(Ta).
+fn carbon_oxygen_in(way: Way, flow: u64, concentrations: Concentrations, corrected: u64) -> u64
+    requires { ⌜ (flow ≤ 200_000) × ConcentrationRanges concentrations × (corrected ≤ 28_400) ⌝ }
+    ensures { λ r. ⌜ (r ≡ carbonOxygenIn way flow concentrations corrected) × (r ≤ 880_000_000) ⌝ }
+{
+    let bod = concentrations.bod;
+    let cod = concentrations.cod;
+    let solids = concentrations.solids;
+    match way {
+        Way::Bod => carbon_oxygen(flow, bod, aeration_uptake(corrected)),
+        Way::Cod => cod::carbon_oxygen(flow, cod, solids, corrected),
+    }
 }
 
 // Oxygen for nitrification, g/d.
@@ -53,8 +68,8 @@ fn saved_oxygen(flow: u64, denitrified: u64) -> u64
 
 // Hourly oxygen, g/h: the larger of the carbon peak and the nitrogen peak.
 fn hourly_oxygen(net: u64, nitrification: u64, carbon_peak: u64, nitrogen_peak: u64) -> u64
-    requires { ⌜ (net ≤ 577_200_000) × (nitrification ≤ 430_000_000) × («carbon_peak» ≤ 300) × («nitrogen_peak» ≤ 300) ⌝ }
-    ensures { λ r. ⌜ (r ≡ hourlyOxygen net nitrification «carbon_peak» «nitrogen_peak») × (r ≤ 126_000_000) ⌝ }
+    requires { ⌜ (net ≤ 880_000_000) × (nitrification ≤ 430_000_000) × («carbon_peak» ≤ 300) × («nitrogen_peak» ≤ 300) ⌝ }
+    ensures { λ r. ⌜ (r ≡ hourlyOxygen net nitrification «carbon_peak» «nitrogen_peak») × (r ≤ 164_000_000) ⌝ }
 {
     rounding::larger(
         rounding::round_up(carbon_peak * net + 100 * nitrification, 2400),
@@ -64,7 +79,7 @@ fn hourly_oxygen(net: u64, nitrification: u64, carbon_peak: u64, nitrogen_peak: 
 
 // Oxygen transfer, g/h.
 fn oxygen_transfer(saturation: u64, hourly: u64) -> u64
-    requires { ⌜ Between 6_000 15_000 saturation × (hourly ≤ 126_000_000) ⌝ }
+    requires { ⌜ Between 6_000 15_000 saturation × (hourly ≤ 164_000_000) ⌝ }
     ensures { λ r. ⌜ r ≡ oxygenTransfer saturation hourly ⌝ }
 {
     rounding::round_up(saturation * hourly, saturation - 2_000)
@@ -72,7 +87,7 @@ fn oxygen_transfer(saturation: u64, hourly: u64) -> u64
 
 // The same with blowers that stand still for a part of each cycle.
 fn paused_transfer(saturation: u64, fraction: u64, hourly: u64) -> u64
-    requires { ⌜ Between 6_000 15_000 saturation × GridFraction fraction × (hourly ≤ 126_000_000) ⌝ }
+    requires { ⌜ Between 6_000 15_000 saturation × GridFraction fraction × (hourly ≤ 164_000_000) ⌝ }
     ensures { λ r. ⌜ r ≡ pausedTransfer saturation fraction hourly ⌝ }
 {
     rounding::round_up(
@@ -83,7 +98,7 @@ fn paused_transfer(saturation: u64, fraction: u64, hourly: u64) -> u64
 
 // Oxygen transfer of a process: the intermittent one pauses.
 fn transfer(process: Process, saturation: u64, fraction: u64, hourly: u64) -> u64
-    requires { ⌜ Between 6_000 15_000 saturation × GridFraction fraction × (hourly ≤ 126_000_000) ⌝ }
+    requires { ⌜ Between 6_000 15_000 saturation × GridFraction fraction × (hourly ≤ 164_000_000) ⌝ }
     ensures { λ r. ⌜ r ≡ transferOf process saturation fraction hourly ⌝ }
 {
     match process {
@@ -115,12 +130,11 @@ fn recirculated(process: Process, nitrified: u64, target: u64) -> u64
     }
 }
 
-// Carbon's oxygen less what denitrification saves, g/d, held at 0. Where the nitrate is covered nothing is cut off.
-fn net_carbon(flow: u64, bod: u64, uptake: u64, denitrified: u64) -> u64
-    requires { ⌜ (flow ≤ 200_000) × (bod ≤ 2_000_000) × (uptake ≤ 1_443) × (denitrified ≤ mostNitrogen) ⌝ }
-    ensures { λ r. ⌜ (r ≡ carbonOxygen flow bod uptake - savedOxygen flow denitrified) × (r ≤ 577_200_000) ⌝ }
+// Carbon's oxygen less what denitrification saves, g/d, held at 0. By BOD nothing is cut off where the nitrate is covered.
+fn net_carbon(flow: u64, carbon: u64, denitrified: u64) -> u64
+    requires { ⌜ (flow ≤ 200_000) × (carbon ≤ 880_000_000) × (denitrified ≤ mostNitrogen) ⌝ }
+    ensures { λ r. ⌜ (r ≡ carbon - savedOxygen flow denitrified) × (r ≤ 880_000_000) ⌝ }
 {
-    let carbon = carbon_oxygen(flow, bod, uptake);
     rounding::less(carbon, saved_oxygen(flow, denitrified))
 }
 
@@ -136,11 +150,12 @@ pub fn aeration(plant: Plant, concentrations: Concentrations, reactor: Reactor) 
     let nitrogen_peak = plant.nitrogen_peak as u64;
     let saturation = plant.oxygen_saturation as u64;
     let process = plant.process;
-    let bod = concentrations.bod;
+    let way = plant.way;
     let nitrified = reactor.nitrified;
-    let uptake = aeration_uptake(reactor::corrected_age(reactor.age, temperature));
+    let corrected = reactor::corrected_age(reactor.age, temperature);
+    let carbon = carbon_oxygen_in(way, flow, concentrations, corrected);
     let own = denitrified_by_bod(reactor.denitrified, reactor.removed_by_dose);
-    let net = net_carbon(flow, bod, uptake, own);
+    let net = net_carbon(flow, carbon, own);
     let nitrification = nitrification_oxygen(flow, nitrified);
     let oxygen = hourly_oxygen(net, nitrification, carbon_peak, nitrogen_peak);
     let transfer = transfer(process, saturation, reactor.fraction, oxygen);

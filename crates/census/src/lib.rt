@@ -35,7 +35,7 @@ fn fraction_number(
     seasons: reactor::Seasons,
     fraction: u32,
 ) -> usize
-    requires { ⌜ PlantRanges plant × ConcentrationRanges concentrations × GridFraction fraction × SeasonsAt plant seasons ⌝ }
+    requires { ⌜ PlantRanges plant × ConcentrationRanges concentrations × GridFraction fraction × SeasonsAt plant concentrations seasons ⌝ }
     ensures { λ r. ⌜ (r ≡ fractionNumber plant concentrations fraction) × (r < answerNumbers) ⌝ }
 {
     let reactor = reactor::reactor(plant, concentrations, seasons, fraction);
@@ -57,7 +57,7 @@ fn fraction_tally(plant: Plant, concentrations: Concentrations) -> [u64; rules::
     requires { ⌜ PlantRanges plant × ConcentrationRanges concentrations ⌝ }
     ensures { λ r. ⌜ Tally (fractionCount plant concentrations fractions) r ⌝ }
 {
-    let seasons = reactor::seasons_of(plant);
+    let seasons = reactor::seasons_of(plant, concentrations);
     let mut tally = [0u64; rules::ANSWER_NUMBERS];
     'fraction: for f in rules::LEAST_FRACTION..=rules::MOST_FRACTION {
         let number = fraction_number(plant, concentrations, seasons, f);

@@ -48,8 +48,8 @@ module _ (p : Plant) (x : Concentrations) (limits : Limits p x) where
       let pos : 1 ≤ s = kept-solids p (y .«return_ratio») (y .thickening) (permitted-parts p x (y .fraction) (y .«return_ratio») (y .thickening) g .0 t .1) in
       let m : reactorOf p x (y .fraction) .mass ≤ mostMass = limits .mass (y .fraction) (o .fraction) in
       let v : settlingOf p (y .«return_ratio») (y .thickening) .volume ≤ mostSettlingVolume = limits .volume (y .«return_ratio») (y .thickening) (o .ratio) (o .time) in
-      let u : up (1000 * reactorOf p x (y .fraction) .mass) s ≤ 14_000_000_000 =
-      up-le (1000 * reactorOf p x (y .fraction) .mass) s 14_000_000_000 pos .1 (omega arith) in
+      let u : up (1000 * reactorOf p x (y .fraction) .mass) s ≤ 30_000_000_000 =
+      up-le (1000 * reactorOf p x (y .fraction) .mass) s 30_000_000_000 pos .1 (omega arith) in
       omega arith
 
   -- no key was found: nothing on the grid is permitted

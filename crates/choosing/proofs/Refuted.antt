@@ -1,11 +1,13 @@
 -- Wrong choosers, each refuted on concrete data: its answer does not keep demand 3. Assumes nothing.
-use mathlib.Core.Path.{refl}
+use mathlib.Core.Path.{_≡_, refl}
 use lib.Dec.{le→leb}
 use Rattle.rules.specs.Examining.{examine}
 use Rattle.rules.specs.Answers.{emptySheet}
 use Rattle.rules.specs.Choosing.{Chosen}
 use Rattle.rules.specs.Cases.{variant, caseA, readingsA, candidate, f32}
+use Rattle.rules.specs.WithoutWay.{withWay}
 use Rattle.rules.specs.declared.Plant.{Plant}
+use Rattle.rules.specs.declared.Way.{Way}
 use Rattle.rules.specs.declared.Process.{Process}
 use Rattle.rules.specs.declared.TankFlow.{TankFlow}
 use Rattle.rules.specs.declared.Removal.{Removal}
@@ -31,6 +33,27 @@ cleanReadings =
 pub five-before-looking : Chosen caseA readingsA (Answer.Refused Refusal.NoDesign) → ⊥
 unfolding steps
 five-before-looking h = h .1 (candidate 300 75 20) tt tt
+
+-- "No design" because the nitrate is not covered at the largest fraction, as if the cover were upward closed: in the way by COD this
+-- water is covered at 499 alone.
+abbrev thinReadings : Readings
+thinReadings =
+    record {
+      bod = Reading.Measured (f32 20 1);
+      cod = Reading.Measured (f32 20 1);
+      solids = Reading.Measured (f32 51_735 1_000);
+      nitrogen = Reading.Measured (f32 12_856 1_000);
+      phosphorus = Reading.Measured (f32 8 1);
+    }
+
+abbrev thinPlant : Plant
+thinPlant = withWay Way.Cod (variant 5_000 10_000 1_000 5_000 Process.Simultaneous TankFlow.Horizontal Removal.Scraper)
+
+pub five-from-the-largest :
+    (examine thinPlant thinReadings (candidate 500 75 20) ≡ Answer.Refused Refusal.Nitrate)
+    × (Chosen thinPlant thinReadings (Answer.Refused Refusal.NoDesign) → ⊥)
+unfolding steps
+five-from-the-largest = (refl, λ h. h .1 (candidate 499 75 20) tt tt)
 
 -- Case A's own listing, examined at 300, 75, 20: 300, 71, 22 is permitted and smaller.
 pub case-A-listing : Chosen caseA readingsA (examine caseA readingsA (candidate 300 75 20)) → ⊥

@@ -36,7 +36,7 @@ fn kept_mass(
     seasons: reactor::Seasons,
     fraction: u32,
 ) -> u64
-    requires { ⌜ PlantRanges plant × ConcentrationRanges concentrations × GridFraction fraction × SeasonsAt plant seasons ⌝ }
+    requires { ⌜ PlantRanges plant × ConcentrationRanges concentrations × GridFraction fraction × SeasonsAt plant concentrations seasons ⌝ }
     ensures { λ r. ⌜ r ≡ keptMass plant concentrations fraction ⌝ }
 {
     let reactor = reactor::reactor(plant, concentrations, seasons, fraction);
@@ -125,7 +125,7 @@ fn sweep(
     seasons: reactor::Seasons,
     bottoms: [u64; 6],
 ) -> u64
-    requires { ⌜ PlantRanges plant × ConcentrationRanges concentrations × SeasonsAt plant seasons × Settled (plant .«sludge_volume_index») bottoms ⌝ }
+    requires { ⌜ PlantRanges plant × ConcentrationRanges concentrations × SeasonsAt plant concentrations seasons × Settled (plant .«sludge_volume_index») bottoms ⌝ }
     ensures { λ r. ⌜ LeastKey plant concentrations (grid plant) r ⌝ }
 {
     let flow = plant.tank;
@@ -167,7 +167,7 @@ pub fn choose_accepted(plant: Plant, concentrations: Concentrations) -> Answer
     ensures { λ r. ⌜ ChosenAmong plant concentrations (grid plant) r ⌝ }
 {
     let bottoms = bottoms(plant.sludge_volume_index);
-    let seasons = reactor::seasons_of(plant);
+    let seasons = reactor::seasons_of(plant, concentrations);
     let best = sweep(plant, concentrations, seasons, bottoms);
     if best == NONE_YET {
         return Answer::Refused(Refusal::NoDesign);

@@ -7,7 +7,7 @@ use lib.Ieee.{ofBits}
 use lib.ListN.{replicate}
 use Rattle.rules.specs.Listing.{writing}
 use Rattle.rules.proofs.Computing.{steps}
-use Rattle.request.specs.Kinds.{processOf, precipitantOf, tankFlowOf, removalOf, primarySettlingOf, readingOf}
+use Rattle.request.specs.Kinds.{processOf, precipitantOf, tankFlowOf, removalOf, primarySettlingOf, wayOf, readingOf}
 use Rattle.words.specs.Bytes.{word, wordsFrom}
 use Rattle.request.specs.Layout.{decodeWords, decode}
 use Rattle.request.specs.Frames.{frameOf}
@@ -22,7 +22,7 @@ abbrev pub numberOn : ℕ → ℕ
 numberOn room = examined requestA (replicate room 0) .number
 
 pub page-lengths : (numberOn 193 ≡ 11) × (numberOn 194 ≡ 0)
-unfolding steps examined onData putOn numberOf plantA dataA requestA frameOf decode decodeWords wordsFrom word processOf precipitantOf tankFlowOf removalOf primarySettlingOf readingOf ofBits writing
+unfolding steps examined onData putOn numberOf plantA dataA requestA frameOf decode decodeWords wordsFrom word processOf precipitantOf tankFlowOf removalOf primarySettlingOf wayOf readingOf ofBits writing
 page-lengths = (refl, refl)
 
 -- a header of three words of two bytes

@@ -5,3 +5,4 @@ pub mod Refuted
 pub mod WrongDoses
 pub mod WrongTerms
 pub mod WrongPauses
+pub mod WrongWays

@@ -17,7 +17,7 @@ use Rattle.examining.specs.declared.Stages.{Stages}
 -- the stages are the steps', within their limits, and the verdict is that on the rules of fraction and tank
 pub record StagesOf (p : Plant) (x : Concentrations) (y : Candidate) (s : Stages) : Type 0 where
   pub reactor : s .reactor ≡ reactorOf p x (y .fraction)
-  pub seasons : SeasonsAt p (s .seasons)
+  pub seasons : SeasonsAt p x (s .seasons)
   pub settling : s .settling ≡ settlingOf p (y .«return_ratio») (y .thickening)
   pub verdict : s .verdict ≡ verdict (fractionRules p x (s .reactor) ++ tankRules p (s .settling))
   pub reactorBounds : ReactorBounds (s .reactor)

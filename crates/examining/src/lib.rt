@@ -61,7 +61,7 @@ pub fn stages_of(plant: Plant, concentrations: Concentrations, candidate: Candid
 {
     let ratio = candidate.return_ratio;
     let time = candidate.thickening;
-    let seasons = reactor::seasons_of(plant);
+    let seasons = reactor::seasons_of(plant, concentrations);
     let reactor = reactor::reactor(plant, concentrations, seasons, candidate.fraction);
     let bottom = settling::bottom_sludge(plant.sludge_volume_index, time);
     let settling = settling::settling(plant, ratio, time, bottom);
@@ -144,7 +144,7 @@ pub fn judge(plant: Plant, concentrations: Concentrations, candidate: Candidate)
     if !on_grid(tank, candidate) {
         return Answer::Refused(Refusal::OffGrid);
     }
-    let seasons = reactor::seasons_of(plant);
+    let seasons = reactor::seasons_of(plant, concentrations);
     let reactor = reactor::reactor(plant, concentrations, seasons, candidate.fraction);
     match reactor::fraction_verdict(plant, concentrations, reactor, seasons) {
         Verdict::Broken(refusal) => Answer::Refused(refusal),

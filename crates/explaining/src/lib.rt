@@ -18,7 +18,7 @@ fn explained(plant: Plant, concentrations: Concentrations, candidate: Candidate)
     ensures { λ r. ⌜ r ≡ candidateExplained plant concentrations candidate ⌝ }
 {
     let process = plant.process;
-    let bod = concentrations.bod;
+    let way = plant.way;
     let stages = examining::stages_of(plant, concentrations, candidate);
     let reactor = stages.reactor;
     let seasons = stages.seasons;
@@ -31,10 +31,10 @@ fn explained(plant: Plant, concentrations: Concentrations, candidate: Candidate)
     let second = seasons.second;
     let third = seasons.third;
     let fourth = seasons.fourth;
-    let first = reactor::explained_in(count, 0, process, bod, reactor, first);
-    let second = reactor::explained_in(count, 1, process, bod, reactor, second);
-    let third = reactor::explained_in(count, 2, process, bod, reactor, third);
-    let fourth = reactor::explained_in(count, 3, process, bod, reactor, fourth);
+    let first = reactor::explained_in(count, 0, way, process, concentrations, reactor, first);
+    let second = reactor::explained_in(count, 1, way, process, concentrations, reactor, second);
+    let third = reactor::explained_in(count, 2, way, process, concentrations, reactor, third);
+    let fourth = reactor::explained_in(count, 3, way, process, concentrations, reactor, fourth);
     Explained {
         denitrified: reactor.denitrified,
         removed_by_bod,

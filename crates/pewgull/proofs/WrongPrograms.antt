@@ -27,6 +27,12 @@ pub use Rattle.consents.proofs.Refuted.{WrongDays, wrong-days}
 -- pauses in aeration: the rounded transfer divided again, 1000 − f outside the rounding, no pauses, pauses in every process, the
 -- fraction of another candidate or of a term, the oxygen raised too: fields of one record
 pub use Rattle.examining.proofs.WrongPauses.{WrongPauses, wrong-pauses}
+-- the way by COD: one chain for all three, the other end of a range, two roundings as one, a negative difference wrapped; the dose in the
+-- oxygen, counted at 10 mg/l, in part, not at all or before the degradable COD is held at 0; 4 still due, or no longer due by BOD; the
+-- COD's oxygen for a pre-anoxic plant, K × C for a simultaneous one; phosphorus or nitrogen from COD; another temperature or fraction:
+-- fields of two records; and "no design" because the largest fraction is not covered
+pub use Rattle.examining.proofs.WrongWays.{WrongChains, wrong-chains, WrongWays, wrong-ways}
+pub use Rattle.choosing.proofs.Refuted.{five-from-the-largest}
 -- every candidate explained as off the grid, or by the figures of one; no rule found broken where one is; the dose left out
 -- of the right column, or its parts exchanged; the design's columns for a term's
 pub use Rattle.explaining.proofs.Refuted.{always-off-grid, one-candidate-explained, verdict-always-kept, dosed-columns, term-columns}

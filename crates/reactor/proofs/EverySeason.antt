@@ -25,30 +25,30 @@ entry test count i factor term = go (leb count i)
     go true = refl
     go false = refl
 
-every-season : (p : Plant) (test : Season → Bool) → everySeason test (seasonsOf p) ≡ every (λ term. test (seasonOf (safetyFactor (p .load)) term)) (termsOf (p .consent))
+every-season : (p : Plant) (x : Concentrations) (test : Season → Bool) → everySeason test (seasonsOf p x) ≡ every (λ term. test (seasonOf (safetyFactor (p .load)) term)) (termsOf (p .consent))
 unfolding seasonsOf
-every-season p test =
+every-season p x test =
     let c = p .consent in
     let factor = safetyFactor (p .load) in
     rw (entry test (c .count) 0 factor (c .first), entry test (c .count) 1 factor (c .second), entry test (c .count) 2 factor (c .third), entry test (c .count) 3 factor (c .fourth))
     (sym (every-entry (λ term. test (seasonOf factor term)) (c .count) (c .first) (c .second) (c .third) (c .fourth)))
 
 -- 15
-pub every-nitrified : (p : Plant) (reactor : Reactor) → everySeason (seasonNitrifies (reactor .age)) (seasonsOf p) ≡ every (nitrifies p reactor) (termsOf (p .consent))
+pub every-nitrified : (p : Plant) (x : Concentrations) (reactor : Reactor) → everySeason (seasonNitrifies (reactor .age)) (seasonsOf p x) ≡ every (nitrifies p reactor) (termsOf (p .consent))
 unfolding seasonWith seasonOf seasonNitrifies nitrifies termShare
-every-nitrified p reactor = every-season p (seasonNitrifies (reactor .age))
+every-nitrified p x reactor = every-season p x (seasonNitrifies (reactor .age))
 
 -- 16
 pub every-covered :
     (p : Plant) (x : Concentrations) (reactor : Reactor)
-    → everySeason (seasonCovered (p .process) (x .bod) reactor) (seasonsOf p) ≡ every (termCovered p x reactor) (termsOf (p .consent))
+    → everySeason (seasonCovered (p .way) (p .process) x reactor) (seasonsOf p x) ≡ every (termCovered p x reactor) (termsOf (p .consent))
 unfolding seasonWith seasonOf seasonFraction seasonRemoves seasonCovered termShare termFraction termRemoves termDenitrified termCovered correctedAge
-every-covered p x reactor = every-season p (seasonCovered (p .process) (x .bod) reactor)
+every-covered p x reactor = every-season p x (seasonCovered (p .way) (p .process) x reactor)
 
 -- what explains a term
 pub explained-at :
     (p : Plant) (x : Concentrations) (reactor : Reactor) (i : ℕ) (term : Term)
-    → entryExplained (p .consent .count) i (p .process) (x .bod) reactor (seasonAt (p .consent .count) i (safetyFactor (p .load)) term)
+    → entryExplained (p .consent .count) i (p .way) (p .process) x reactor (seasonAt (p .consent .count) i (safetyFactor (p .load)) term)
     ≡ termAt p x reactor i term
 unfolding entryExplained termAt seasonAt seasonWith seasonOf seasonFraction seasonRemoves seasonExplained termShare termFraction termRemoves termDenitrified termExplained correctedAge
 explained-at p x reactor i term = go (leb (p .consent .count) i)
@@ -58,7 +58,7 @@ explained-at p x reactor i term = go (leb (p .consent .count) i)
 
     go :
         (b : Bool)
-        → cond b noTermExplained (seasonExplained (p .process) (x .bod) reactor (cond b none (seasonOf (safetyFactor (p .load)) term)))
+        → cond b noTermExplained (seasonExplained (p .way) (p .process) x reactor (cond b none (seasonOf (safetyFactor (p .load)) term)))
         ≡ cond b noTermExplained (termExplained p x reactor term)
     go true = refl
     go false = refl

@@ -7,3 +7,4 @@ pub mod SludgeLimits
 pub mod Bounds
 pub mod EverySeason
 pub mod Refuted
+pub mod UpwardCover

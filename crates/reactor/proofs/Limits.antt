@@ -1,4 +1,4 @@
--- What the limits of all figures share: a result that is a definition's value has the definition's limit, and the decay
+-- What the limits of all figures share: a result that is a definition's value has the definition's limits, and the decay
 -- and uptake quotients level off as the age grows. Assumes nothing.
 use Prim.Native.Nat.{ℕ, _+_, _*_, _≤_}
 use mathlib.Core.Path.{_≡_}
@@ -7,10 +7,6 @@ use native.Mathlib.Omega.{arith}
 use Rattle.rules.specs.Rounding.{down}
 use Rattle.rules.specs.Ranges.{Between}
 
-pub limited : {r value most : ℕ} → r ≡ value → value ≤ most → (r ≡ value) × (r ≤ most)
-limited e h = (e, omega arith)
-
--- the same with both limits
 pub ranged-as : {r value least most : ℕ} → r ≡ value → Between least most value → (r ≡ value) × Between least most r
 ranged-as e b = (e, omega (arith, b))
 

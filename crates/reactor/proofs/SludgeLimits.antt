@@ -2,13 +2,15 @@
 use Prim.Native.Nat.{ℕ, _+_, _-_, _*_, _≤_}
 use native.Mathlib.Nat.{mul-le-mul, sub-le}
 use native.Mathlib.Omega.{arith}
-use Rattle.rules.specs.ReactorSteps.{biomassDecay, carbonSludge, sludgePerPhosphorus, phosphorusSludge, sludgeProduction, sludgeMass}
-use Rattle.rules.specs.Limits.{mostSludge}
+use Rattle.rules.specs.ReactorSteps.{biomassDecay, carbonSludge, carbonSludgeIn, sludgePerPhosphorus, phosphorusSludge, sludgeProduction, sludgeMass}
+use Rattle.rules.specs.Limits.{mostDose, mostSludge, mostMass}
 use Rattle.rules.specs.Ranges.{PlantRanges, ConcentrationRanges}
 use Rattle.rules.specs.declared.Plant.{Plant}
 use Rattle.rules.specs.declared.Concentrations.{Concentrations}
 use Rattle.rules.specs.declared.Precipitant.{Precipitant}
+use Rattle.rules.specs.declared.Way.{Way}
 use Rattle.rules.specs.Rounding.{down}
+use Rattle.cod.proofs.Limits as by-cod
 use Rattle.reactor.proofs.Limits.{levels-off}
 
 pub biomass-decay-most : (u : ℕ) → biomassDecay u ≤ 600
@@ -46,15 +48,30 @@ unfolding phosphorusSludge
 phosphorus-sludge-most flow k phosphorus target bod hf hk hp =
     omega (arith, phosphorus-product flow k (phosphorus - target - down bod 100) hf hk (omega arith))
 
+pub carbon-sludge-in-most :
+    (way : Way) (flow : ℕ) (x : Concentrations) (dose u : ℕ)
+    → flow ≤ 200_000
+    → ConcentrationRanges x
+    → dose ≤ mostDose
+    → u ≤ 28_400
+    → carbonSludgeIn way flow x dose u ≤ 1_360_000_000
+unfolding carbonSludgeIn
+carbon-sludge-in-most Way.Bod flow x dose u hf hx hd hu =
+    omega (arith, carbon-sludge-most flow (x .bod) (x .solids) u hf (hx .bod .most) (hx .solids .most))
+carbon-sludge-in-most Way.Cod flow x dose u hf hx hd hu =
+    by-cod.carbon-sludge-most flow (x .cod) (x .solids) dose u hf (hx .cod .most) (hx .solids .most) hd hu
+
 pub sludge-production-most :
-    (p : Plant) (x : Concentrations) (u : ℕ) → PlantRanges p → ConcentrationRanges x → sludgeProduction p x u ≤ mostSludge
+    (p : Plant) (x : Concentrations) (carbon : ℕ)
+    → PlantRanges p
+    → ConcentrationRanges x
+    → carbon ≤ 1_360_000_000
+    → sludgeProduction p x carbon ≤ mostSludge
 unfolding sludgeProduction
-sludge-production-most p x u hp hx =
-    let carbon = carbon-sludge-most (p .flow) (x .bod) (x .solids) u (hp .flow .most) (hx .bod .most) (hx .solids .most) in
+sludge-production-most p x carbon hp hx hc =
     let k = sludge-per-phosphorus-most (p .precipitant) in
     omega (
       arith,
-      carbon,
       phosphorus-sludge-most (p .flow) (sludgePerPhosphorus (p .precipitant)) (x .phosphorus) (p .«phosphorus_target») (x .bod)
           (hp .flow .most)
           k
@@ -62,9 +79,9 @@ sludge-production-most p x u hp hx =
     )
 
 -- the product that the mass rounds
-pub mass-product : (age sludge : ℕ) → age ≤ 20_000 → sludge ≤ 700_000_000 → age * sludge ≤ 14_000_000_000_000
+pub mass-product : (age sludge : ℕ) → age ≤ 20_000 → sludge ≤ mostSludge → age * sludge ≤ 30_000_000_000_000
 mass-product age sludge ha hs = mul-le-mul ha hs
 
-pub sludge-mass-most : (age sludge : ℕ) → age ≤ 20_000 → sludge ≤ 700_000_000 → sludgeMass age sludge ≤ 14_000_000
+pub sludge-mass-most : (age sludge : ℕ) → age ≤ 20_000 → sludge ≤ mostSludge → sludgeMass age sludge ≤ mostMass
 unfolding sludgeMass
 sludge-mass-most age sludge ha hs = omega (arith, mass-product age sludge ha hs)

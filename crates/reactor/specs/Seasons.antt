@@ -1,20 +1,24 @@
--- What the design and the terms of a consent ask of a reactor, reckoned once for a plant: a season has the figures that do not
+-- What the inflow, the design and the terms of a consent ask of a reactor, reckoned once for a plant: the figures that do not
 -- depend on the fraction. For the contracts of the inner functions. Assumes nothing.
 use Prim.Native.Nat.{ℕ, _-_, _*_, _≤_, min}
 use mathlib.Core.Path.{_≡_}
 use mathlib.Core.Bool.{Bool, cond, _&&_, _||_}
 use lib.Dec.{leb}
 use Rattle.rules.specs.Rounding.{down}
-use Rattle.rules.specs.Limits.{mostTemperature, mostTermAge}
+use Rattle.rules.specs.Limits.{mostTemperature, mostTermAge, mostNitrogen, mostRemovedByDose}
 use Rattle.rules.specs.Ranges.{Between}
-use Rattle.rules.specs.AgeNitrate.{safetyFactor, decay, aerobicAge, denitrified, removedByBod, removable, covered}
-use Rattle.rules.specs.TermSteps.{aerobicShare, termCapacity}
+use Rattle.rules.specs.AgeNitrate.{safetyFactor, decay, aerobicAge, nitrified, denitrified, removedByBod, removedByDose, removable, covered}
+use Rattle.rules.specs.ReactorSteps.{sludgePerPhosphorus, phosphorusSludge}
+use Rattle.rules.specs.TermSteps.{aerobicShare, removesFrom200}
 use Rattle.rules.specs.Explanations.{noTermExplained}
 use Rattle.rules.specs.declared.Plant.{Plant}
+use Rattle.rules.specs.declared.Concentrations.{Concentrations}
 use Rattle.rules.specs.declared.Process.{Process}
+use Rattle.rules.specs.declared.Way.{Way}
 use Rattle.rules.specs.declared.Term.{Term}
 use Rattle.rules.specs.declared.Reactor.{Reactor}
 use Rattle.rules.specs.declared.TermExplained.{TermExplained}
+use Rattle.reactor.specs.declared.Inflow.{Inflow}
 use Rattle.reactor.specs.declared.Season.{Season}
 use Rattle.reactor.specs.declared.Seasons.{Seasons}
 
@@ -32,11 +36,23 @@ unfoldable pub seasonAt : ℕ → ℕ → ℕ → Term → Season
 seasonAt count i factor term =
     cond (leb count i) (record { temperature = 0; target = 0; «aerobic_age» = 0; decay = 0 }) (seasonOf factor term)
 
-unfoldable pub seasonsOf : Plant → Seasons
-seasonsOf p =
+-- W, D, what the dose removes, and the phosphorus sludge
+unfoldable pub inflowOf : Plant → Concentrations → Inflow
+inflowOf p x =
+    let w = nitrified (x .nitrogen) (x .bod) in
+    record {
+      nitrified = w;
+      denitrified = denitrified w (p .«nitrate_target»);
+      «removed_by_dose» = removedByDose (p .dose);
+      «phosphorus_sludge» = phosphorusSludge (p .flow) (sludgePerPhosphorus (p .precipitant)) (x .phosphorus) (p .«phosphorus_target») (x .bod);
+    }
+
+unfoldable pub seasonsOf : Plant → Concentrations → Seasons
+seasonsOf p x =
     let c = p .consent in
     let factor = safetyFactor (p .load) in
     record {
+      inflow = inflowOf p x;
       design = seasonWith factor (p .«design_temperature») (p .«nitrate_target»);
       count = c .count;
       first = seasonAt (c .count) 0 factor (c .first);
@@ -51,7 +67,14 @@ pub record SeasonBounds (s : Season) : Type 0 where
   pub age : s .«aerobic_age» ≤ mostTermAge
   pub decay : s .decay ≤ 1_420_000
 
+pub record InflowBounds (i : Inflow) : Type 0 where
+  pub nitrified : i .nitrified ≤ mostNitrogen
+  pub denitrified : i .denitrified ≤ mostNitrogen
+  pub byDose : i .«removed_by_dose» ≤ mostRemovedByDose
+  pub phosphorus : i .«phosphorus_sludge» ≤ 136_000_000
+
 pub record SeasonsBounds (s : Seasons) : Type 0 where
+  pub inflow : InflowBounds (s .inflow)
   pub design : SeasonBounds (s .design)
   pub designAge : Between 1 10_000 (s .design .«aerobic_age»)
   pub first : SeasonBounds (s .first)
@@ -59,9 +82,9 @@ pub record SeasonsBounds (s : Seasons) : Type 0 where
   pub third : SeasonBounds (s .third)
   pub fourth : SeasonBounds (s .fourth)
 
--- the seasons are a plant's, within their limits
-pub record SeasonsAt (p : Plant) (s : Seasons) : Type 0 where
-  pub value : s ≡ seasonsOf p
+-- the seasons are a plant's with its inflow, within their limits
+pub record SeasonsAt (p : Plant) (x : Concentrations) (s : Seasons) : Type 0 where
+  pub value : s ≡ seasonsOf p x
   pub bounds : SeasonsBounds s
 
 -- nitrification is kept in a season, at the sludge age t
@@ -72,30 +95,30 @@ seasonNitrifies age s = leb (aerobicShare (s .«aerobic_age») age) 1000
 unfoldable pub seasonFraction : ℕ → ℕ → Season → ℕ
 seasonFraction fraction age s = min fraction (1000 - aerobicShare (s .«aerobic_age») age)
 
--- K × C in a season
-unfoldable pub seasonRemoves : Process → ℕ → Reactor → Season → ℕ
-seasonRemoves process bod reactor s =
-    termCapacity process (seasonFraction (reactor .fraction) (reactor .age) s) (s .temperature) (down (reactor .age * s .decay) 1_000_000) * bod
+-- K × C or what stands for it in a season
+unfoldable pub seasonRemoves : Way → Process → Concentrations → Reactor → Season → ℕ
+seasonRemoves way process x reactor s =
+    removesFrom200 way process x (seasonFraction (reactor .fraction) (reactor .age) s) (s .temperature) (down (reactor .age * s .decay) 1_000_000)
 
 -- its nitrate is covered
-unfoldable pub seasonCovered : Process → ℕ → Reactor → Season → Bool
-seasonCovered process bod reactor s =
-    covered (seasonRemoves process bod reactor s) (reactor .«removed_by_dose») (denitrified (reactor .nitrified) (s .target))
+unfoldable pub seasonCovered : Way → Process → Concentrations → Reactor → Season → Bool
+seasonCovered way process x reactor s =
+    covered (seasonRemoves way process x reactor s) (reactor .«removed_by_dose») (denitrified (reactor .nitrified) (s .target))
 
 -- the figures that explain a reactor in a season
-unfoldable pub seasonExplained : Process → ℕ → Reactor → Season → TermExplained
-seasonExplained process bod reactor s =
+unfoldable pub seasonExplained : Way → Process → Concentrations → Reactor → Season → TermExplained
+seasonExplained way process x reactor s =
     record {
       «aerobic_share» = aerobicShare (s .«aerobic_age») (reactor .age);
       fraction = seasonFraction (reactor .fraction) (reactor .age) s;
       denitrified = denitrified (reactor .nitrified) (s .target);
-      «removed_by_bod» = removedByBod (seasonRemoves process bod reactor s);
-      removable = removable (seasonRemoves process bod reactor s) (reactor .«removed_by_dose»);
+      «removed_by_bod» = removedByBod (seasonRemoves way process x reactor s);
+      removable = removable (seasonRemoves way process x reactor s) (reactor .«removed_by_dose»);
     }
 
 -- the same of entry i; zeros past the count
-unfoldable pub entryExplained : ℕ → ℕ → Process → ℕ → Reactor → Season → TermExplained
-entryExplained count i process bod reactor s = cond (leb count i) noTermExplained (seasonExplained process bod reactor s)
+unfoldable pub entryExplained : ℕ → ℕ → Way → Process → Concentrations → Reactor → Season → TermExplained
+entryExplained count i way process x reactor s = cond (leb count i) noTermExplained (seasonExplained way process x reactor s)
 
 -- every season passes a test
 abbrev pub everySeason : (Season → Bool) → Seasons → Bool

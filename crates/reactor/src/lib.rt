@@ -1,6 +1,7 @@
 // What depends on the denitrification fraction alone: sludge age, nitrate and sludge.
 mod age;
 mod nitrate;
+mod once;
 mod sludge;
 mod terms;
 mod volume;
@@ -40,8 +41,22 @@ pub struct Season {
     pub decay: u64,
 }
 
-// The design, and the terms of the consent: as many as the count says, zeros past it.
+// What the inflow asks of a reactor, whatever the fraction.
+pub struct Inflow {
+    // W, nitrogen to nitrify, mg/m3
+    pub nitrified: u64,
+    // D, nitrate to denitrify, mg/m3
+    pub denitrified: u64,
+    // nitrate that the dose removes, mg/m3
+    pub removed_by_dose: u64,
+    // g/d
+    pub phosphorus_sludge: u64,
+}
+
+// What does not depend on the fraction: the inflow's figures, the design, and the terms of the consent, as many as the count
+// says, zeros past it.
 pub struct Seasons {
+    pub inflow: Inflow,
     pub design: Season,
     pub count: u32,
     pub first: Season,
@@ -50,38 +65,37 @@ pub struct Seasons {
     pub fourth: Season,
 }
 
-// f, t, W, D, K × C, what the dose removes, S and M at a fraction of the grid.
+// f, t, W, D, K × C or what stands for it, what the dose removes, S and M at a fraction of the grid.
 pub fn reactor(
     plant: Plant,
     concentrations: Concentrations,
     seasons: Seasons,
     fraction: u32,
 ) -> Reactor
-    requires { ⌜ PlantRanges plant × ConcentrationRanges concentrations × GridFraction fraction × SeasonsAt plant seasons ⌝ }
+    requires { ⌜ PlantRanges plant × ConcentrationRanges concentrations × GridFraction fraction × SeasonsAt plant concentrations seasons ⌝ }
     ensures { λ r. ⌜ (r ≡ reactorOf plant concentrations fraction) × ReactorBounds r ⌝ }
 {
     let f = fraction as u64;
     let temperature = plant.design_temperature as u64;
     let dose = plant.dose as u64;
-    let bod = concentrations.bod;
     let process = plant.process;
+    let way = plant.way;
+    let flow = plant.flow as u64;
+    let inflow = seasons.inflow;
     let design = seasons.design;
     let age = age::sludge_age(design.aerobic_age, f);
     let corrected = age::corrected_by(age, design.decay);
-    let nitrified = nitrate::nitrified(concentrations.nitrogen, bod);
-    let denitrified = nitrate::denitrified(nitrified, plant.nitrate_target as u64);
-    let capacity = nitrate::capacity(process, f, temperature, corrected);
-    let removes = capacity * bod;
-    let removed_by_dose = nitrate::removed_by_dose(dose);
-    let sludge = sludge::sludge_production(plant, concentrations, corrected);
+    let removes = nitrate::removes(way, process, concentrations, f, temperature, corrected);
+    let carbon = sludge::carbon_sludge_in(way, flow, concentrations, dose, corrected);
+    let sludge = carbon + inflow.phosphorus_sludge;
     let mass = sludge::sludge_mass(age, sludge);
     Reactor {
         fraction: f,
         age,
-        nitrified,
-        denitrified,
+        nitrified: inflow.nitrified,
+        denitrified: inflow.denitrified,
         removes,
-        removed_by_dose,
+        removed_by_dose: inflow.removed_by_dose,
         sludge,
         mass,
     }
@@ -94,10 +108,11 @@ pub fn fraction_verdict(
     reactor: Reactor,
     seasons: Seasons,
 ) -> Verdict
-    requires { ⌜ ConcentrationRanges concentrations × ReactorBounds reactor × SeasonsAt plant seasons ⌝ }
+    requires { ⌜ ConcentrationRanges concentrations × ReactorBounds reactor × SeasonsAt plant concentrations seasons ⌝ }
     ensures { λ r. ⌜ r ≡ verdict (fractionRules plant concentrations reactor) ⌝ }
 {
     let process = plant.process;
+    let way = plant.way;
     let covered = nitrate::covered(
         reactor.removes,
         reactor.removed_by_dose,
@@ -110,7 +125,7 @@ pub fn fraction_verdict(
         return Verdict::Kept;
     }
     let nitrified = terms::every_nitrified(reactor.age, seasons);
-    let term_covered = terms::every_covered(process, concentrations.bod, reactor, seasons);
+    let term_covered = terms::every_covered(way, process, concentrations, reactor, seasons);
     verdicts::rule(
         nitrified,
         Refusal::Nitrification,

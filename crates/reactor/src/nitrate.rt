@@ -1,9 +1,11 @@
 // The nitrate that the tank must and can remove.
+use rules::Concentrations;
 use rules::Process;
+use rules::Way;
 ghost use mathlib.Core.Path.{_≡_};
 ghost use Prim.Native.Nat.{_+_, _-_, _*_, _≤_, _<_};
-ghost use Rattle.rules.specs.AgeNitrate.{nitrified, denitrified, tableCapacity, risenCapacity, capacityUptake, uptakeCapacity, capacity, removedByDose, covered};
-ghost use Rattle.rules.specs.Ranges.{GridFraction};
+ghost use Rattle.rules.specs.AgeNitrate.{nitrified, denitrified, tableCapacity, risenCapacity, capacityUptake, uptakeCapacity, capacity, removesByBod, removesByCod, removes, removedByDose, covered};
+ghost use Rattle.rules.specs.Ranges.{GridFraction, ConcentrationRanges};
 ghost use Rattle.rules.specs.Limits.{mostTemperature, mostFraction, mostNitrogen, mostCapacity, mostRemoves, mostDose, mostRemovedByDose};
 
 // W, nitrogen to nitrify, mg/m3.
@@ -65,7 +67,7 @@ fn uptake_capacity(fraction: u64, corrected: u64) -> u64
 }
 
 // K, denitrification capacity, g nitrate nitrogen per kg BOD.
-pub(crate) fn capacity(process: Process, fraction: u64, temperature: u64, corrected: u64) -> u64
+fn capacity(process: Process, fraction: u64, temperature: u64, corrected: u64) -> u64
     requires { ⌜ GridFraction fraction × (temperature ≤ mostTemperature) × (corrected ≤ 28_400) ⌝ }
     ensures { λ r. ⌜ (r ≡ capacity process fraction temperature corrected) × (r ≤ mostCapacity) ⌝ }
 {
@@ -77,6 +79,72 @@ pub(crate) fn capacity(process: Process, fraction: u64, temperature: u64, correc
     }
 }
 
+// K × C.
+fn removes_by_bod(
+    process: Process,
+    concentrations: Concentrations,
+    fraction: u64,
+    temperature: u64,
+    corrected: u64,
+) -> u64
+    requires { ⌜ ConcentrationRanges concentrations × GridFraction fraction × (temperature ≤ mostTemperature) × (corrected ≤ 28_400) ⌝ }
+    ensures { λ r. ⌜ (r ≡ removesByBod process concentrations fraction temperature corrected) × (r ≤ mostRemoves) ⌝ }
+{
+    let bod = concentrations.bod;
+    capacity(process, fraction, temperature, corrected) * bod
+}
+
+// What stands for it in the way by COD: a process that denitrifies by its oxygen uptake takes the COD's.
+fn removes_by_cod(
+    process: Process,
+    concentrations: Concentrations,
+    fraction: u64,
+    temperature: u64,
+    corrected: u64,
+) -> u64
+    requires { ⌜ ConcentrationRanges concentrations × GridFraction fraction × (temperature ≤ mostTemperature) × (corrected ≤ 28_400) ⌝ }
+    ensures { λ r. ⌜ (r ≡ removesByCod process concentrations fraction temperature corrected) × (r ≤ mostRemoves) ⌝ }
+{
+    let cod = concentrations.cod;
+    let solids = concentrations.solids;
+    match process {
+        Process::PreAnoxic => removes_by_bod(
+            process,
+            concentrations,
+            fraction,
+            temperature,
+            corrected,
+        ),
+        Process::Simultaneous => cod::removed_by_oxygen(fraction, cod, solids, corrected),
+        Process::Intermittent => cod::removed_by_oxygen(fraction, cod, solids, corrected),
+        Process::StepFeed(_) => removes_by_bod(
+            process,
+            concentrations,
+            fraction,
+            temperature,
+            corrected,
+        ),
+    }
+}
+
+// K × C or what stands for it.
+pub(crate) fn removes(
+    way: Way,
+    process: Process,
+    concentrations: Concentrations,
+    fraction: u64,
+    temperature: u64,
+    corrected: u64,
+) -> u64
+    requires { ⌜ ConcentrationRanges concentrations × GridFraction fraction × (temperature ≤ mostTemperature) × (corrected ≤ 28_400) ⌝ }
+    ensures { λ r. ⌜ (r ≡ removes way process concentrations fraction temperature corrected) × (r ≤ mostRemoves) ⌝ }
+{
+    match way {
+        Way::Bod => removes_by_bod(process, concentrations, fraction, temperature, corrected),
+        Way::Cod => removes_by_cod(process, concentrations, fraction, temperature, corrected),
+    }
+}
+
 // The nitrate that external carbon removes, mg/m3.
 pub(crate) fn removed_by_dose(dose: u64) -> u64
     requires { ⌜ dose ≤ mostDose ⌝ }
@@ -85,7 +153,7 @@ pub(crate) fn removed_by_dose(dose: u64) -> u64
     dose / 5
 }
 
-// Whether the tank's BOD and the dose cover the nitrate to denitrify.
+// Whether the tank's own carbon and the dose cover the nitrate to denitrify.
 pub(crate) fn covered(removes: u64, by_dose: u64, denitrified: u64) -> bool
     requires { ⌜ (removes ≤ mostRemoves) × («by_dose» ≤ mostRemovedByDose) × (denitrified ≤ mostNitrogen) ⌝ }
     ensures { λ r. ⌜ r ≡ covered removes «by_dose» denitrified ⌝ }

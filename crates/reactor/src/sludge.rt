@@ -1,12 +1,12 @@
 // The sludge that carbon and phosphorus make, and the mass of it that the tank holds.
 use rules::Concentrations;
-use rules::Plant;
 use rules::Precipitant;
+use rules::Way;
 ghost use mathlib.Core.Path.{_≡_};
 ghost use Prim.Native.Nat.{_≤_};
-ghost use Rattle.rules.specs.ReactorSteps.{biomassDecay, carbonSludge, sludgePerPhosphorus, phosphorusSludge, sludgeProduction, sludgeMass};
-ghost use Rattle.rules.specs.Ranges.{PlantRanges, ConcentrationRanges};
-ghost use Rattle.rules.specs.Limits.{mostAge, mostSludge, mostMass};
+ghost use Rattle.rules.specs.ReactorSteps.{biomassDecay, carbonSludge, carbonSludgeIn, sludgePerPhosphorus, phosphorusSludge, sludgeMass};
+ghost use Rattle.rules.specs.Ranges.{ConcentrationRanges};
+ghost use Rattle.rules.specs.Limits.{mostAge, mostDose, mostSludge, mostMass};
 
 // e, decay of biomass per kg BOD.
 pub fn biomass_decay(corrected: u64) -> u64
@@ -27,8 +27,28 @@ fn carbon_sludge(flow: u64, bod: u64, solids: u64, corrected: u64) -> u64
     )
 }
 
+// Carbon sludge in a way, g/d.
+pub(crate) fn carbon_sludge_in(
+    way: Way,
+    flow: u64,
+    concentrations: Concentrations,
+    dose: u64,
+    corrected: u64,
+) -> u64
+    requires { ⌜ (flow ≤ 200_000) × ConcentrationRanges concentrations × (dose ≤ mostDose) × (corrected ≤ 28_400) ⌝ }
+    ensures { λ r. ⌜ (r ≡ carbonSludgeIn way flow concentrations dose corrected) × (r ≤ 1_360_000_000) ⌝ }
+{
+    let bod = concentrations.bod;
+    let cod = concentrations.cod;
+    let solids = concentrations.solids;
+    match way {
+        Way::Bod => carbon_sludge(flow, bod, solids, corrected),
+        Way::Cod => cod::carbon_sludge(flow, cod, solids, dose, corrected),
+    }
+}
+
 // k, sludge per phosphorus, tenths.
-fn sludge_per_phosphorus(precipitant: Precipitant) -> u64
+pub(crate) fn sludge_per_phosphorus(precipitant: Precipitant) -> u64
     ensures { λ r. ⌜ (r ≡ sludgePerPhosphorus precipitant) × (r ≤ 68) ⌝ }
 {
     match precipitant {
@@ -38,7 +58,7 @@ fn sludge_per_phosphorus(precipitant: Precipitant) -> u64
 }
 
 // Phosphorus sludge, g/d.
-fn phosphorus_sludge(flow: u64, k: u64, phosphorus: u64, target: u64, bod: u64) -> u64
+pub(crate) fn phosphorus_sludge(flow: u64, k: u64, phosphorus: u64, target: u64, bod: u64) -> u64
     requires { ⌜ (flow ≤ 200_000) × (k ≤ 68) × (phosphorus ≤ 100_000) ⌝ }
     ensures { λ r. ⌜ (r ≡ phosphorusSludge flow k phosphorus target bod) × (r ≤ 136_000_000) ⌝ }
 {
@@ -46,20 +66,6 @@ fn phosphorus_sludge(flow: u64, k: u64, phosphorus: u64, target: u64, bod: u64) 
         flow * k * rounding::less(rounding::less(phosphorus, target), bod / 100),
         10_000,
     )
-}
-
-// S, sludge, g/d.
-pub(crate) fn sludge_production(plant: Plant, concentrations: Concentrations, corrected: u64) -> u64
-    requires { ⌜ PlantRanges plant × ConcentrationRanges concentrations × (corrected ≤ 28_400) ⌝ }
-    ensures { λ r. ⌜ (r ≡ sludgeProduction plant concentrations corrected) × (r ≤ mostSludge) ⌝ }
-{
-    let flow = plant.flow as u64;
-    let target = plant.phosphorus_target as u64;
-    let precipitant = plant.precipitant;
-    let bod = concentrations.bod;
-    let carbon = carbon_sludge(flow, bod, concentrations.solids, corrected);
-    let k = sludge_per_phosphorus(precipitant);
-    carbon + phosphorus_sludge(flow, k, concentrations.phosphorus, target, bod)
 }
 
 // M, mass of sludge, kg.

@@ -1,20 +1,22 @@
 // The design and the terms of the consent. What does not depend on the fraction is reckoned once for a plant.
 use crate::Season;
 use crate::Seasons;
+use rules::Concentrations;
 use rules::Plant;
 use rules::Process;
 use rules::Reactor;
 use rules::Term;
 use rules::TermExplained;
+use rules::Way;
 ghost use mathlib.Core.Path.{_≡_};
 ghost use mathlib.Core.Bool.{_||_};
 ghost use Prim.Native.Nat.{_*_, _≤_, _<_};
 ghost use lib.Dec.{T, leb};
 ghost use Rattle.rules.specs.Rounding.{down};
-ghost use Rattle.rules.specs.Limits.{leastTemperature, mostTermAge, mostAge, mostFraction, mostTemperature, mostCapacity, mostRemoves, mostNitrogen};
-ghost use Rattle.rules.specs.Ranges.{Between, TermTemperature, PlantRanges, ReactorBounds};
+ghost use Rattle.rules.specs.Limits.{leastTemperature, mostTermAge, mostAge, mostFraction, mostTemperature, mostRemoves, mostNitrogen};
+ghost use Rattle.rules.specs.Ranges.{Between, TermTemperature, PlantRanges, ConcentrationRanges, ReactorBounds};
 ghost use Rattle.rules.specs.Consent.{termValid};
-ghost use Rattle.rules.specs.TermSteps.{aerobicShare, termCapacity};
+ghost use Rattle.rules.specs.TermSteps.{aerobicShare, removesFrom200};
 ghost use Rattle.reactor.specs.Seasons.{seasonWith, seasonAt, SeasonBounds, SeasonsBounds, SeasonsAt, seasonNitrifies, seasonFraction, seasonRemoves, seasonCovered, seasonExplained, entryExplained, everySeason};
 
 // A temperature and a target with the plant's SF.
@@ -48,10 +50,10 @@ fn season_at(count: u32, i: u32, factor: u64, term: Term) -> Season
     season_with(factor, term.temperature as u64, term.nitrate_target as u64)
 }
 
-// The seasons of a plant.
-pub fn seasons_of(plant: Plant) -> Seasons
-    requires { ⌜ PlantRanges plant ⌝ }
-    ensures { λ r. ⌜ SeasonsAt plant r ⌝ }
+// What does not depend on the fraction, for a plant and its inflow.
+pub fn seasons_of(plant: Plant, concentrations: Concentrations) -> Seasons
+    requires { ⌜ PlantRanges plant × ConcentrationRanges concentrations ⌝ }
+    ensures { λ r. ⌜ SeasonsAt plant concentrations r ⌝ }
 {
     let temperature = plant.design_temperature as u64;
     let target = plant.nitrate_target as u64;
@@ -67,7 +69,9 @@ pub fn seasons_of(plant: Plant) -> Seasons
     let second = season_at(count, 1, factor, second);
     let third = season_at(count, 2, factor, third);
     let fourth = season_at(count, 3, factor, fourth);
+    let inflow = crate::once::inflow_of(plant, concentrations);
     Seasons {
+        inflow,
         design,
         count,
         first,
@@ -94,26 +98,53 @@ fn season_fraction(fraction: u64, age: u64, season: Season) -> u64
     if left < fraction { left } else { fraction }
 }
 
-// K in a season: 0 at a fraction under 200.
-fn season_capacity(process: Process, fraction: u64, temperature: u64, corrected: u64) -> u64
-    requires { ⌜ (fraction ≤ mostFraction) × (temperature ≤ mostTemperature) × (corrected ≤ 28_400) ⌝ }
-    ensures { λ r. ⌜ (r ≡ termCapacity process fraction temperature corrected) × (r ≤ mostCapacity) ⌝ }
+// K × C or what stands for it at a fraction and a temperature: 0 at a fraction under 200.
+fn removes_from_200(
+    way: Way,
+    process: Process,
+    concentrations: Concentrations,
+    fraction: u64,
+    temperature: u64,
+    corrected: u64,
+) -> u64
+    requires { ⌜ ConcentrationRanges concentrations × (fraction ≤ mostFraction) × (temperature ≤ mostTemperature) × (corrected ≤ 28_400) ⌝ }
+    ensures { λ r. ⌜ (r ≡ removesFrom200 way process concentrations fraction temperature corrected) × (r ≤ mostRemoves) ⌝ }
 {
     if fraction < 200 {
         return 0;
     }
-    crate::nitrate::capacity(process, fraction, temperature, corrected)
+    crate::nitrate::removes(
+        way,
+        process,
+        concentrations,
+        fraction,
+        temperature,
+        corrected,
+    )
 }
 
-// K × C in a season, with U of the design's t at the season's temperature.
-fn season_removes(process: Process, bod: u64, reactor: Reactor, season: Season) -> u64
-    requires { ⌜ (bod ≤ 2_000_000) × ReactorBounds reactor × SeasonBounds season ⌝ }
-    ensures { λ r. ⌜ (r ≡ seasonRemoves process bod reactor season) × (r ≤ mostRemoves) ⌝ }
+// The same in a season, with U of the design's t at the season's temperature.
+fn season_removes(
+    way: Way,
+    process: Process,
+    concentrations: Concentrations,
+    reactor: Reactor,
+    season: Season,
+) -> u64
+    requires { ⌜ ConcentrationRanges concentrations × ReactorBounds reactor × SeasonBounds season ⌝ }
+    ensures { λ r. ⌜ (r ≡ seasonRemoves way process concentrations reactor season) × (r ≤ mostRemoves) ⌝ }
 {
     let age = reactor.age;
     let fraction = season_fraction(reactor.fraction, age, season);
     let corrected = crate::age::corrected_by(age, season.decay);
-    season_capacity(process, fraction, season.temperature, corrected) * bod
+    removes_from_200(
+        way,
+        process,
+        concentrations,
+        fraction,
+        season.temperature,
+        corrected,
+    )
 }
 
 // Nitrification is kept in entry i, or there is no such term.
@@ -131,18 +162,19 @@ fn nitrified_in(count: u32, i: u32, age: u64, season: Season) -> bool
 fn covered_in(
     count: u32,
     i: u32,
+    way: Way,
     process: Process,
-    bod: u64,
+    concentrations: Concentrations,
     reactor: Reactor,
     season: Season,
 ) -> bool
-    requires { ⌜ (bod ≤ 2_000_000) × ReactorBounds reactor × SeasonBounds season ⌝ }
-    ensures { λ r. ⌜ r ≡ (leb count i || seasonCovered process bod reactor season) ⌝ }
+    requires { ⌜ ConcentrationRanges concentrations × ReactorBounds reactor × SeasonBounds season ⌝ }
+    ensures { λ r. ⌜ r ≡ (leb count i || seasonCovered way process concentrations reactor season) ⌝ }
 {
     if count <= i {
         return true;
     }
-    let removes = season_removes(process, bod, reactor, season);
+    let removes = season_removes(way, process, concentrations, reactor, season);
     let denitrified = crate::nitrate::denitrified(reactor.nitrified, season.target);
     crate::nitrate::covered(removes, reactor.removed_by_dose, denitrified)
 }
@@ -163,32 +195,39 @@ pub(crate) fn every_nitrified(age: u64, seasons: Seasons) -> bool
 }
 
 // The nitrate is covered in every term.
-pub(crate) fn every_covered(process: Process, bod: u64, reactor: Reactor, seasons: Seasons) -> bool
-    requires { ⌜ (bod ≤ 2_000_000) × ReactorBounds reactor × SeasonsBounds seasons ⌝ }
-    ensures { λ r. ⌜ r ≡ everySeason (seasonCovered process bod reactor) seasons ⌝ }
+pub(crate) fn every_covered(
+    way: Way,
+    process: Process,
+    concentrations: Concentrations,
+    reactor: Reactor,
+    seasons: Seasons,
+) -> bool
+    requires { ⌜ ConcentrationRanges concentrations × ReactorBounds reactor × SeasonsBounds seasons ⌝ }
+    ensures { λ r. ⌜ r ≡ everySeason (seasonCovered way process concentrations reactor) seasons ⌝ }
 {
     let count = seasons.count;
     let first = seasons.first;
     let second = seasons.second;
     let third = seasons.third;
     let fourth = seasons.fourth;
-    covered_in(count, 0, process, bod, reactor, first)
-        & (covered_in(count, 1, process, bod, reactor, second)
-            & (covered_in(count, 2, process, bod, reactor, third)
-                & covered_in(count, 3, process, bod, reactor, fourth)))
+    covered_in(count, 0, way, process, concentrations, reactor, first)
+        & (covered_in(count, 1, way, process, concentrations, reactor, second)
+            & (covered_in(count, 2, way, process, concentrations, reactor, third)
+                & covered_in(count, 3, way, process, concentrations, reactor, fourth)))
 }
 
 // The figures that explain a reactor in entry i; zeros where there is no such term.
 pub fn explained_in(
     count: u32,
     i: u32,
+    way: Way,
     process: Process,
-    bod: u64,
+    concentrations: Concentrations,
     reactor: Reactor,
     season: Season,
 ) -> TermExplained
-    requires { ⌜ (bod ≤ 2_000_000) × ReactorBounds reactor × SeasonBounds season ⌝ }
-    ensures { λ r. ⌜ r ≡ entryExplained count i process bod reactor season ⌝ }
+    requires { ⌜ ConcentrationRanges concentrations × ReactorBounds reactor × SeasonBounds season ⌝ }
+    ensures { λ r. ⌜ r ≡ entryExplained count i way process concentrations reactor season ⌝ }
 {
     if count <= i {
         return TermExplained {
@@ -203,7 +242,7 @@ pub fn explained_in(
     let share = aerobic_share(season.aerobic_age, age);
     let fraction = season_fraction(reactor.fraction, age, season);
     let denitrified = crate::nitrate::denitrified(reactor.nitrified, season.target);
-    let removed_by_bod = season_removes(process, bod, reactor, season) / 1000;
+    let removed_by_bod = season_removes(way, process, concentrations, reactor, season) / 1000;
     TermExplained {
         aerobic_share: share,
         fraction,

@@ -10,12 +10,14 @@ use Rattle.rules.specs.Consent.{noTerm}
 use Rattle.rules.specs.Cases.{variant, caseA, f32, readingsWith, readingsA, candidate}
 use Rattle.rules.specs.WithoutDose.{withDose}
 use Rattle.rules.specs.WithoutTerms.{withConsent}
+use Rattle.rules.specs.WithoutWay.{withWay}
 use Rattle.rules.specs.declared.Consent.{Consent}
-use Rattle.request.specs.Kinds.{processOf, precipitantOf, tankFlowOf, removalOf, primarySettlingOf, readingOf}
+use Rattle.rules.specs.declared.Way.{Way}
+use Rattle.request.specs.Kinds.{processOf, precipitantOf, tankFlowOf, removalOf, primarySettlingOf, wayOf, readingOf}
 use Rattle.words.specs.Bytes.{word, wordsFrom}
 use Rattle.request.specs.Layout.{kindsKnown, decodeWords, decode, askedCandidate}
 use Rattle.request.specs.ConsentLayout.{decodeInquiry}
-use Rattle.request.specs.Frames.{plantWords, candidateWords, frameOf}
+use Rattle.request.specs.Frames.{plantWords, wayWord, candidateWords, frameOf}
 use Rattle.request.specs.declared.Fault.{Fault}
 use Rattle.request.specs.declared.Decoded.{Decoded}
 use Rattle.request.specs.declared.DecodedInquiry.{DecodedInquiry}
@@ -23,7 +25,7 @@ use Rattle.request.specs.declared.DecodedInquiry.{DecodedInquiry}
 -- the words before the consent's, one a line
 unfoldable pub plantA : List ℕ
 plantA =
-    0x03 ∷ 0x00 ∷ 0x00 ∷ 0x00
+    0x04 ∷ 0x00 ∷ 0x00 ∷ 0x00
     ∷ 0xb0 ∷ 0x04 ∷ 0x00 ∷ 0x00
     ∷ 0x88 ∷ 0x13 ∷ 0x00 ∷ 0x00
     ∷ 0x58 ∷ 0x02 ∷ 0x00 ∷ 0x00
@@ -55,9 +57,9 @@ plantA =
     ∷ 0x00 ∷ 0x00 ∷ 0x00 ∷ 0x00
     ∷ []
 
--- the data: with a consent without terms
+-- the data: with a consent without terms, by BOD
 unfoldable pub dataA : List ℕ
-dataA = plantA ++ replicate 100 0
+dataA = plantA ++ replicate 104 0
 
 -- with the candidate's words
 unfoldable pub requestA : List ℕ
@@ -67,12 +69,12 @@ pub case-a :
     (decode dataA 0 ≡ Decoded.Data (record { plant = caseA; readings = readingsA }))
     × (decode requestA candidateWords ≡ Decoded.Data (record { plant = caseA; readings = readingsA }))
     × (askedCandidate requestA ≡ candidate 300 75 20)
-unfolding plantA dataA requestA frameOf decode decodeWords wordsFrom word processOf precipitantOf tankFlowOf removalOf primarySettlingOf readingOf ofBits caseA variant readingsA readingsWith f32 round candidate
+unfolding plantA dataA requestA frameOf decode decodeWords wordsFrom word processOf precipitantOf tankFlowOf removalOf primarySettlingOf wayOf readingOf ofBits caseA variant readingsA readingsWith f32 round candidate
 case-a = (refl, refl, refl)
 
 -- a dose of 65,539, the last word before the consent's
 pub dosed : decode (set (set dataA 116 3) 118 1) 0 ≡ Decoded.Data (record { plant = withDose 65_539 caseA; readings = readingsA })
-unfolding plantA dataA frameOf decode decodeWords wordsFrom word processOf precipitantOf tankFlowOf removalOf primarySettlingOf readingOf ofBits caseA variant withDose readingsA readingsWith f32 round
+unfolding plantA dataA frameOf decode decodeWords wordsFrom word processOf precipitantOf tankFlowOf removalOf primarySettlingOf wayOf readingOf ofBits caseA variant withDose readingsA readingsWith f32 round
 dosed = refl
 
 -- a term from 1 November to 30 April at 8 degrees with a target of 13,000, the first of one; and the same terms with 29 February
@@ -90,19 +92,24 @@ winter =
       fourth = noTerm;
     }
 
-pub termed : decode (plantA ++ consentA) 0 ≡ Decoded.Data (record { plant = withConsent winter caseA; readings = readingsA })
-unfolding plantA consentA frameOf decode decodeWords wordsFrom word processOf precipitantOf tankFlowOf removalOf primarySettlingOf readingOf ofBits caseA variant withConsent readingsA readingsWith f32 round
+pub termed : decode (plantA ++ (consentA ++ replicate 4 0)) 0 ≡ Decoded.Data (record { plant = withConsent winter caseA; readings = readingsA })
+unfolding plantA consentA frameOf decode decodeWords wordsFrom word processOf precipitantOf tankFlowOf removalOf primarySettlingOf wayOf readingOf ofBits caseA variant withConsent readingsA readingsWith f32 round
 termed = refl
 
+-- the way by COD, the word after the consent's
+pub by-cod : decode (set dataA 220 1) 0 ≡ Decoded.Data (record { plant = withWay Way.Cod caseA; readings = readingsA })
+unfolding plantA dataA frameOf decode decodeWords wordsFrom word processOf precipitantOf tankFlowOf removalOf primarySettlingOf wayOf readingOf ofBits caseA variant withWay readingsA readingsWith f32 round
+by-cod = refl
+
 pub asked :
-    decodeInquiry ((3 ∷ 0 ∷ 0 ∷ 0 ∷ []) ++ (consentA ++ (2 ∷ 0 ∷ 0 ∷ 0 ∷ 29 ∷ 0 ∷ 0 ∷ 0 ∷ [])))
+    decodeInquiry ((4 ∷ 0 ∷ 0 ∷ 0 ∷ []) ++ (consentA ++ (2 ∷ 0 ∷ 0 ∷ 0 ∷ 29 ∷ 0 ∷ 0 ∷ 0 ∷ [])))
     ≡ DecodedInquiry.Inquiry (record { consent = winter; date = record { month = 2; day = 29 } })
 unfolding consentA frameOf decodeInquiry word
 asked = refl
 
--- malformed in more than one way, the first test decides: a request of version 2 as it was, with 25 words less, whatever its
--- kinds; a byte too many, whatever its kinds; and no first word at all
-pub earlier-version : decode (take 120 (set (set dataA 0 2) 56 5)) 0 ≡ Decoded.Malformed Fault.Version
+-- malformed in more than one way, the first test decides: a request of version 3 as it was, with a word less, whatever its kinds;
+-- a byte too many, whatever its kinds; and no first word at all
+pub earlier-version : decode (take 220 (set (set dataA 0 3) 56 5)) 0 ≡ Decoded.Malformed Fault.Version
 unfolding plantA dataA frameOf decode word
 earlier-version = refl
 
@@ -117,10 +124,11 @@ too-short = refl
 -- a kind, by its byte of the request: its last code is known, and the one after it is malformed
 abbrev KnownTo : ℕ → ℕ → Type 0
 KnownTo byte last =
-    (kindsKnown (wordsFrom (set requestA byte last) 0 plantWords) ≡ true)
+    (kindsKnown (wordsFrom (set requestA byte last) 0 plantWords) (word (set requestA byte last) wayWord) ≡ true)
     × (decode (set requestA byte (last + 1)) candidateWords ≡ Decoded.Malformed Fault.Kind)
 
--- all ten kinds: the process, the precipitant, the tank flow, the sludge removal, the primary settling, and the five readings
+-- all eleven kinds: the process, the precipitant, the tank flow, the sludge removal, the primary settling, the five readings and the
+-- way
 pub known-kinds :
     KnownTo 56 4
     × KnownTo 60 1
@@ -132,8 +140,9 @@ pub known-kinds :
     × KnownTo 92 2
     × KnownTo 100 2
     × KnownTo 108 2
+    × KnownTo 220 1
 unfolding plantA dataA requestA frameOf decode decodeWords wordsFrom word
-known-kinds = ((refl, refl), (refl, refl), (refl, refl), (refl, refl), (refl, refl), (refl, refl), (refl, refl), (refl, refl), (refl, refl), (refl, refl))
+known-kinds = ((refl, refl), (refl, refl), (refl, refl), (refl, refl), (refl, refl), (refl, refl), (refl, refl), (refl, refl), (refl, refl), (refl, refl), (refl, refl))
 
 -- each call takes its own length alone
 pub own-words :

@@ -10,7 +10,7 @@ use borrow.Author.Tests.{eqb-true}
 use Rattle.words.specs.Bytes.{word, wordsFrom}
 use Rattle.request.specs.Layout.{decodeWords, onFrame, decode}
 use Rattle.request.specs.ConsentLayout.{consentOf}
-use Rattle.request.specs.Frames.{version, plantWords, dataWords, requestLength, frameOf}
+use Rattle.request.specs.Frames.{version, plantWords, wayWord, dataWords, requestLength, frameOf}
 use Rattle.request.specs.declared.Data.{Data}
 use Rattle.request.specs.declared.Fault.{Fault}
 use Rattle.request.specs.declared.Frame.{Frame}
@@ -35,6 +35,6 @@ pub data-length : (bytes : List ℕ) (own : ℕ) (x : Data) → decode bytes own
 unfolding decode
 data-length bytes own x = go (frameOf bytes (dataWords + own)) refl
   where
-    go : (f : Frame) → frameOf bytes (dataWords + own) ≡ f → onFrame f (decodeWords (wordsFrom bytes 0 plantWords) (consentOf bytes plantWords)) ≡ Decoded.Data x → length bytes ≡ requestLength own
+    go : (f : Frame) → frameOf bytes (dataWords + own) ≡ f → onFrame f (decodeWords (wordsFrom bytes 0 plantWords) (consentOf bytes plantWords) (word bytes wayWord)) ≡ Decoded.Data x → length bytes ≡ requestLength own
     go Frame.Whole e h = whole-length bytes (dataWords + own) e
     go (Frame.Malformed fault) e h = let z : _≡_ {A = ℕ} 0 1 = cc in absurd (omega arith)

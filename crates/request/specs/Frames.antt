@@ -11,10 +11,10 @@ use Rattle.request.specs.declared.Frame.{Frame}
 
 -- the newest version
 abbrev pub version : ℕ
-version = 3
+version = 4
 
--- the words before the consent's, a term's, the consent's, all of the data's, those of a request for the target of a date, and
--- the own words of a call that is asked of a candidate
+-- the words before the consent's, a term's, the consent's, the place of the way's, all of the data's, those of a request for the
+-- target of a date, and the own words of a call that is asked of a candidate
 abbrev pub plantWords : ℕ
 plantWords = 30
 
@@ -24,8 +24,11 @@ termWords = 6
 abbrev pub consentWords : ℕ
 consentWords = 1 + 4 * termWords
 
+abbrev pub wayWord : ℕ
+wayWord = plantWords + consentWords
+
 abbrev pub dataWords : ℕ
-dataWords = plantWords + consentWords
+dataWords = wayWord + 1
 
 abbrev pub inquiryWords : ℕ
 inquiryWords = 1 + (consentWords + 2)

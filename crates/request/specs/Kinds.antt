@@ -10,6 +10,7 @@ use Rattle.rules.specs.declared.Precipitant.{Precipitant}
 use Rattle.rules.specs.declared.TankFlow.{TankFlow}
 use Rattle.rules.specs.declared.Removal.{Removal}
 use Rattle.rules.specs.declared.PrimarySettling.{PrimarySettling}
+use Rattle.rules.specs.declared.Way.{Way}
 use Rattle.rules.specs.declared.Reading.{Reading}
 use Rattle.rules.specs.declared.Reading.the-variants.{Measured, Below, Heads}
 
@@ -32,6 +33,9 @@ removalOf code = cond (eqb code 0) Removal.Scraper (cond (eqb code 1) Removal.Su
 unfoldable pub primarySettlingOf : ℕ → PrimarySettling
 primarySettlingOf code =
     cond (eqb code 0) PrimarySettling.None (cond (eqb code 1) PrimarySettling.Short PrimarySettling.Long)
+
+unfoldable pub wayOf : ℕ → Way
+wayOf code = cond (eqb code 0) Way.Bod Way.Cod
 
 -- a reading, by its kind's code and its second word: the bits of an f32 (every pattern of a NaN is the one NaN), or a head
 -- count

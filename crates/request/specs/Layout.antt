@@ -1,20 +1,21 @@
--- The layout of a request with plant data: the data, which are version, plant, readings and consent, and then the own words of the
--- call that it is for. Each word is a 32-bit unsigned number in four bytes, the lowest first. Assumes nothing.
+-- The layout of a request with plant data: the data, which are version, plant, readings, consent and way, and then the own words of
+-- the call that it is for. Each word is a 32-bit unsigned number in four bytes, the lowest first. Assumes nothing.
 use Prim.Native.Nat.{ℕ, _+_}
 use mathlib.Core.Bool.{Bool, cond, _&&_}
 use mathlib.Core.List.{List}
 use lib.Dec.{leb}
 use lib.ListN.{getD}
 use Rattle.words.specs.Bytes.{word, wordsFrom}
-use Rattle.request.specs.Frames.{plantWords, dataWords, frameOf}
+use Rattle.request.specs.Frames.{plantWords, wayWord, dataWords, frameOf}
 use Rattle.request.specs.ConsentLayout.{consentOf}
-use Rattle.request.specs.Kinds.{processOf, precipitantOf, tankFlowOf, removalOf, primarySettlingOf, readingOf}
+use Rattle.request.specs.Kinds.{processOf, precipitantOf, tankFlowOf, removalOf, primarySettlingOf, wayOf, readingOf}
 use Rattle.rules.specs.declared.Process.{Process}
 use Rattle.rules.specs.declared.Precipitant.{Precipitant}
 use Rattle.rules.specs.declared.TankFlow.{TankFlow}
 use Rattle.rules.specs.declared.Removal.{Removal}
 use Rattle.rules.specs.declared.PrimarySettling.{PrimarySettling}
 use Rattle.rules.specs.declared.Consent.{Consent}
+use Rattle.rules.specs.declared.Way.{Way}
 use Rattle.rules.specs.declared.Plant.{Plant}
 use Rattle.rules.specs.declared.Readings.{Readings}
 use Rattle.rules.specs.declared.Candidate.{Candidate}
@@ -22,9 +23,9 @@ use Rattle.request.specs.declared.Fault.{Fault}
 use Rattle.request.specs.declared.Frame.{Frame}
 use Rattle.request.specs.declared.Decoded.{Decoded}
 
--- the plant with these kinds and this consent, its figures the words 1 to 13 and 29 of the data
-abbrev pub plantWith : List ℕ → Process → Precipitant → TankFlow → Removal → PrimarySettling → Consent → Plant
-plantWith words process precipitant tank removal settling consent =
+-- the plant with these kinds, this consent and this way, its figures the words 1 to 13 and 29 of the data
+abbrev pub plantWith : List ℕ → Process → Precipitant → TankFlow → Removal → PrimarySettling → Consent → Way → Plant
+plantWith words process precipitant tank removal settling consent way =
     record {
       load = getD words 1 0;
       flow = getD words 2 0;
@@ -46,11 +47,12 @@ plantWith words process precipitant tank removal settling consent =
       «primary_settling» = settling;
       dose = getD words 29 0;
       consent = consent;
+      way = way;
     }
 
--- the plant, with the kinds of the words 14 to 18
-abbrev pub plantOf : List ℕ → Consent → Plant
-plantOf words consent =
+-- the plant, with the kinds of the words 14 to 18 and the way by its code
+abbrev pub plantOf : List ℕ → Consent → ℕ → Plant
+plantOf words consent way =
     plantWith words
     (processOf (getD words 14 0))
     (precipitantOf (getD words 15 0))
@@ -58,6 +60,7 @@ plantOf words consent =
     (removalOf (getD words 17 0))
     (primarySettlingOf (getD words 18 0))
     consent
+    (wayOf way)
 
 -- the readings, words 19 to 28 of the data
 abbrev pub readingsOf : List ℕ → Readings
@@ -70,9 +73,9 @@ readingsOf words =
       phosphorus = readingOf (getD words 27 0) (getD words 28 0);
     }
 
--- every kind is one of the layout's: processes to readings
-abbrev pub kindsKnown : List ℕ → Bool
-kindsKnown words =
+-- every kind is one of the layout's: processes to readings, and the way
+abbrev pub kindsKnown : List ℕ → ℕ → Bool
+kindsKnown words way =
     leb (getD words 14 0) 4
     && leb (getD words 15 0) 1
     && leb (getD words 16 0) 1
@@ -83,12 +86,13 @@ kindsKnown words =
     && leb (getD words 23 0) 2
     && leb (getD words 25 0) 2
     && leb (getD words 27 0) 2
+    && leb way 1
 
--- the data's words decoded, with the consent: 103, else what they hold
-unfoldable pub decodeWords : List ℕ → Consent → Decoded
-decodeWords words consent =
-    cond (kindsKnown words)
-    (Decoded.Data (record { plant = plantOf words consent; readings = readingsOf words }))
+-- the data's words decoded, with the consent and the code of the way: 103, else what they hold
+unfoldable pub decodeWords : List ℕ → Consent → ℕ → Decoded
+decodeWords words consent way =
+    cond (kindsKnown words way)
+    (Decoded.Data (record { plant = plantOf words consent way; readings = readingsOf words }))
     (Decoded.Malformed Fault.Kind)
 
 -- what a whole request holds
@@ -98,7 +102,7 @@ onFrame (Frame.Malformed fault) d = Decoded.Malformed fault
 
 -- the data of a request for a call with so many own words
 unfoldable pub decode : List ℕ → ℕ → Decoded
-decode bytes own = onFrame (frameOf bytes (dataWords + own)) (decodeWords (wordsFrom bytes 0 plantWords) (consentOf bytes plantWords))
+decode bytes own = onFrame (frameOf bytes (dataWords + own)) (decodeWords (wordsFrom bytes 0 plantWords) (consentOf bytes plantWords) (word bytes wayWord))
 
 -- the candidate that a call is asked of: the first three of its own words, which come after the data
 abbrev pub askedCandidate : List ℕ → Candidate

@@ -12,11 +12,12 @@ use rules::Removal;
 use rules::Steps;
 use rules::TankFlow;
 use rules::Term;
+use rules::Way;
 ghost use mathlib.Core.Path.{_≡_};
 ghost use Prim.Native.Nat.{_+_, _*_, _≤_};
 ghost use lib.ListN.{length};
-ghost use Rattle.request.specs.Kinds.{processOf, precipitantOf, tankFlowOf, removalOf, primarySettlingOf, readingOf};
-ghost use Rattle.request.specs.Frames.{plantWords, termWords, consentWords, dataWords, requestLength, longestRequest, candidateWords};
+ghost use Rattle.request.specs.Kinds.{processOf, precipitantOf, tankFlowOf, removalOf, primarySettlingOf, wayOf, readingOf};
+ghost use Rattle.request.specs.Frames.{plantWords, termWords, consentWords, wayWord, dataWords, requestLength, longestRequest, candidateWords};
 ghost use Rattle.request.specs.Layout.{plantOf, readingsOf, kindsKnown, decodeWords, decode, askedCandidate};
 ghost use Rattle.request.specs.ConsentLayout.{dateOf, termOf, consentOf, decodeInquiry};
 ghost use Rattle.request.specs.Frames.{frameOf, faultNumber};
@@ -60,13 +61,16 @@ pub enum Frame {
 }
 
 // The newest version, the only one that is answered.
-const VERSION: u32 = 3;
+const VERSION: u32 = 4;
 
 // The words before the consent's: version, plant, readings and dose.
 const PLANT_WORDS: usize = 30;
 
-// The words of the data: those, and the consent's.
-const DATA_WORDS: usize = 55;
+// The way's word, after the consent's.
+const WAY_WORD: usize = 55;
+
+// The words of the data: those, and the way's.
+const DATA_WORDS: usize = 56;
 
 // The words of a request for the target of a date: version, consent, month and day.
 const INQUIRY_WORDS: usize = 28;
@@ -128,6 +132,15 @@ fn primary_settling(code: u32) -> PrimarySettling
     }
 }
 
+fn way(code: u32) -> Way
+    ensures { λ r. ⌜ r ≡ wayOf code ⌝ }
+{
+    match code {
+        0 => Way::Bod,
+        _ => Way::Cod,
+    }
+}
+
 // A reading by its kind's code and its second word, the bits of an f32 or a head count.
 fn reading(code: u32, value: u32) -> Reading
     ensures { λ r. ⌜ r ≡ readingOf code value ⌝ }
@@ -140,8 +153,8 @@ fn reading(code: u32, value: u32) -> Reading
 }
 
 // Every kind is one of the layout's.
-fn kinds_known(words: [u32; PLANT_WORDS]) -> bool
-    ensures { λ r. ⌜ r ≡ kindsKnown words ⌝ }
+fn kinds_known(words: [u32; PLANT_WORDS], way: u32) -> bool
+    ensures { λ r. ⌜ r ≡ kindsKnown words way ⌝ }
 {
     (words[14] <= 4)
         & (words[15] <= 1)
@@ -153,11 +166,12 @@ fn kinds_known(words: [u32; PLANT_WORDS]) -> bool
         & (words[23] <= 2)
         & (words[25] <= 2)
         & (words[27] <= 2)
+        & (way <= 1)
 }
 
-// The plant, words 1 to 18 and 29, with its consent.
-fn plant(words: [u32; PLANT_WORDS], consent: Consent) -> Plant
-    ensures { λ r. ⌜ r ≡ plantOf words consent ⌝ }
+// The plant, words 1 to 18 and 29, with its consent and the code of its way.
+fn plant(words: [u32; PLANT_WORDS], consent: Consent, code: u32) -> Plant
+    ensures { λ r. ⌜ r ≡ plantOf words consent code ⌝ }
 {
     Plant {
         load: words[1],
@@ -180,6 +194,7 @@ fn plant(words: [u32; PLANT_WORDS], consent: Consent) -> Plant
         primary_settling: primary_settling(words[18]),
         dose: words[29],
         consent,
+        way: way(code),
     }
 }
 
@@ -241,15 +256,15 @@ fn consent(bytes: &[u8], at: usize) -> Consent
     }
 }
 
-// The data's words decoded, with the consent.
-fn decode_words(words: [u32; PLANT_WORDS], consent: Consent) -> Decoded
-    ensures { λ r. ⌜ r ≡ decodeWords words consent ⌝ }
+// The data's words decoded, with the consent and the code of the way.
+fn decode_words(words: [u32; PLANT_WORDS], consent: Consent, way: u32) -> Decoded
+    ensures { λ r. ⌜ r ≡ decodeWords words consent way ⌝ }
 {
-    if !kinds_known(words) {
+    if !kinds_known(words, way) {
         return Decoded::Malformed(Fault::Kind);
     }
     Decoded::Data(Data {
-        plant: plant(words, consent),
+        plant: plant(words, consent, way),
         readings: readings(words),
     })
 }
@@ -281,7 +296,11 @@ pub fn decode(bytes: &[u8], own: usize) -> Decoded
         Frame::Whole => {
             let mut words = [0u32; PLANT_WORDS];
             words::read_words(bytes, &mut words);
-            decode_words(words, consent(bytes, PLANT_WORDS))
+            decode_words(
+                words,
+                consent(bytes, PLANT_WORDS),
+                words::word(bytes, WAY_WORD),
+            )
         }
     }
 }

@@ -10,9 +10,9 @@ use lib.Dec.{T}
 use lib.Ieee.Fits.{and-l, and-r}
 use Rattle.rules.specs.Rules.{Rule, rule, allKept, verdict, FirstBroken}
 use Rattle.rules.specs.PlantData.{plantInRange}
-use Rattle.rules.specs.LabReadings.{resultInRange, headsInRange, readingNoNumber, readingValue, readingInRange, codRatioBroken}
+use Rattle.rules.specs.LabReadings.{resultInRange, headsInRange, readingNoNumber, readingValue, readingInRange}
 use Rattle.rules.specs.Consent.{consentValid}
-use Rattle.rules.specs.Accepting.{valuesOf, readingRules, readingsRules, bulkingRule, termsRule, rulesAfterFigures, dataRules, acceptBy, accept}
+use Rattle.rules.specs.Accepting.{valuesOf, readingRules, ratioRule, readingsRules, bulkingRule, termsRule, rulesAfterFigures, dataRules, acceptBy, accept}
 use Rattle.rules.specs.Ranges.{Between, PlantRanges, ConcentrationRanges}
 use Rattle.rules.specs.declared.Plant.{Plant}
 use Rattle.rules.specs.declared.PrimarySettling.{PrimarySettling}
@@ -127,7 +127,7 @@ none-due-ranges p r t =
     of k x = readingRules (p .flow) (p .«primary_settling») k x
 
     ratio : List Rule
-    ratio = rule Refusal.CodRatio (not (codRatioBroken (valuesOf p r .bod) (valuesOf p r .cod))) ∷ []
+    ratio = ratioRule p r ∷ []
 
     from-phosphorus : List Rule
     from-phosphorus = of Parameter.Phosphorus (r .phosphorus) ++ ratio

@@ -2,10 +2,12 @@
 -- other, so their totals, fractions, return ratios and thickening times agree, and with them their sheets.
 -- Assumes nothing.
 use mathlib.Core.Path.{_≡_, sym, ap, _∙_}
+use Prim.Native.Nat.{ℕ}
 use native.Mathlib.Nat.{le-antisymm}
+use native.Mathlib.Omega.{arith}
 use Rattle.rules.specs.Accepting.{accept}
 use Rattle.rules.specs.Examining.{sheetOf}
-use Rattle.rules.specs.Choosing.{Candidates, candidateOf, candidateTotal, NotBefore, Least, ChosenAmong, ChosenAccepted, Chosen, grid}
+use Rattle.rules.specs.Choosing.{Candidates, candidateOf, candidateTotal, NotBeforeBy, Least, ChosenAmong, ChosenAccepted, Chosen, grid}
 use Rattle.rules.specs.declared.Plant.{Plant}
 use Rattle.rules.specs.declared.Readings.{Readings}
 use Rattle.rules.specs.declared.Concentrations.{Concentrations}
@@ -18,13 +20,24 @@ use Rattle.rules.specs.declared.Answer.{Answer}
 same-candidate : (d y : Candidate) → d .fraction ≡ y .fraction → d .«return_ratio» ≡ y .«return_ratio» → d .thickening ≡ y .thickening → d ≡ y
 same-candidate d y f r h = λ i. record { fraction = f i; «return_ratio» = r i; thickening = h i }
 
--- two candidates of which neither comes before the other are one
-pub neither-before : (p : Plant) (x : Concentrations) (d y : Candidate) → NotBefore p x d y → NotBefore p x y d → d ≡ y
-neither-before p x d y a b =
-    let t : candidateTotal p x d ≡ candidateTotal p x y = le-antisymm (a .total) (b .total) in
+-- two candidates of which neither comes before the other are one, whatever the totals
+pub neither-before : (volume : Candidate → ℕ) (d y : Candidate) → NotBeforeBy volume d y → NotBeforeBy volume y d → d ≡ y
+neither-before volume d y a b =
+    let t : volume d ≡ volume y = le-antisymm (a .total) (b .total) in
     let f : d .fraction ≡ y .fraction = le-antisymm (a .fraction t) (b .fraction (sym t)) in
     let r : d .«return_ratio» ≡ y .«return_ratio» = le-antisymm (a .ratio t f) (b .ratio (sym t) (sym f)) in
     same-candidate d y f r (le-antisymm (a .time t f r) (b .time (sym t) (sym f) (sym r)))
+
+-- the order goes by the totals alone
+pub same-order : (v w : Candidate → ℕ) → ((y : Candidate) → v y ≡ w y) → (d y : Candidate) → NotBeforeBy v d y → NotBeforeBy w d y
+same-order v w e d y h =
+    let back : w d ≡ w y → v d ≡ v y = λ t. e d ∙ (t ∙ sym (e y)) in
+    record {
+      total = omega (arith, h .total, e d, e y);
+      fraction = λ t. h .fraction (back t);
+      ratio = λ t f. h .ratio (back t) f;
+      time = λ t f r. h .time (back t) f r;
+    }
 
 -- two least designs among the same candidates are one sheet
 pub least-once : (p : Plant) (x : Concentrations) (among : Candidates) (s t : Sheet) → Least p x among s → Least p x among t → s ≡ t
@@ -32,7 +45,7 @@ least-once p x among s t a b =
     a .figures
     ∙ (ap
     (sheetOf p x)
-    (neither-before p x (candidateOf s) (candidateOf t) (a .rivals (candidateOf t) (b .member) (b .allowed)) (b .rivals (candidateOf s) (a .member) (a .allowed)))
+    (neither-before (candidateTotal p x) (candidateOf s) (candidateOf t) (a .rivals (candidateOf t) (b .member) (b .allowed)) (b .rivals (candidateOf s) (a .member) (a .allowed)))
     ∙ sym (b .figures))
 
 -- two answers chosen among the same candidates are one

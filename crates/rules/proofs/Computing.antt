@@ -7,6 +7,7 @@ use Rattle.rules.specs.Consent
 use Rattle.rules.specs.LabReadings
 use Rattle.rules.specs.Accepting
 use Rattle.rules.specs.AgeNitrate
+use Rattle.rules.specs.CodBalance
 use Rattle.rules.specs.ReactorSteps
 use Rattle.rules.specs.SettlingSteps
 use Rattle.rules.specs.AerationSteps
@@ -16,6 +17,7 @@ use Rattle.rules.specs.Choosing
 use Rattle.rules.specs.Explaining
 use Rattle.rules.specs.WithoutDose.{withDose}
 use Rattle.rules.specs.WithoutTerms.{withConsent}
+use Rattle.rules.specs.WithoutWay.{withWay}
 use Rattle.rules.specs.Answers
 use Rattle.rules.specs.Explanations
 use Rattle.rules.specs.Listing
@@ -49,10 +51,26 @@ unfolding
     LabReadings.readingValue
     LabReadings.readingInRange
     LabReadings.codRatioBroken
+    LabReadings.ratioRefused
     Accepting.valuesOf
     Accepting.dataRules
     Accepting.acceptBy
     Accepting.accept
+    CodBalance.rounded
+    CodBalance.particulateCod
+    CodBalance.inertParticulate
+    CodBalance.inertOfSolids
+    CodBalance.inertSoluble
+    CodBalance.degradableCod
+    CodBalance.dosedCod
+    CodBalance.biomassFormed
+    CodBalance.inertOfBiomass
+    CodBalance.sludgeAsCod
+    CodBalance.inorganicSolids
+    CodBalance.carbonSludgeByCod
+    CodBalance.oxygenByCod
+    CodBalance.carbonOxygenByCod
+    CodBalance.removedByOxygen
     AgeNitrate.largestReturnRatio
     AgeNitrate.onGrid
     AgeNitrate.safetyFactor
@@ -69,6 +87,9 @@ unfolding
     AgeNitrate.capacityUptake
     AgeNitrate.uptakeCapacity
     AgeNitrate.capacity
+    AgeNitrate.removesByBod
+    AgeNitrate.removesByCod
+    AgeNitrate.removes
     AgeNitrate.removedByBod
     AgeNitrate.removedByDose
     AgeNitrate.removable
@@ -77,6 +98,7 @@ unfolding
     ReactorSteps.carbonSludge
     ReactorSteps.sludgePerPhosphorus
     ReactorSteps.phosphorusSludge
+    ReactorSteps.carbonSludgeIn
     ReactorSteps.sludgeProduction
     ReactorSteps.sludgeMass
     ReactorSteps.reactorOf
@@ -97,10 +119,13 @@ unfolding
     SettlingSteps.settlingDepth
     SettlingSteps.settlingVolume
     SettlingSteps.settlingOf
+    ReactorSteps.reactorBy
+    ReactorSteps.reactorDosed
     ReactorSteps.reactorSolids
     ReactorSteps.reactorVolume
     AerationSteps.aerationUptake
     AerationSteps.carbonOxygen
+    AerationSteps.carbonOxygenIn
     AerationSteps.nitrificationOxygen
     AerationSteps.denitrifiedByBod
     AerationSteps.savedOxygen
@@ -116,7 +141,7 @@ unfolding
     TermSteps.termShare
     TermSteps.nitrifies
     TermSteps.termFraction
-    TermSteps.termCapacity
+    TermSteps.removesFrom200
     TermSteps.termRemoves
     TermSteps.termDenitrified
     TermSteps.termCovered
@@ -142,6 +167,7 @@ unfolding
     Choosing.candidateTotal
     withDose
     withConsent
+    withWay
     Answers.emptySheet
     Answers.answerNumber
     Answers.answerSheet

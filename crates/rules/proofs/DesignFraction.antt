@@ -11,8 +11,8 @@ use Rattle.rules.specs.Rounding.{up}
 use Rattle.rules.specs.Limits.{leastFraction}
 use Rattle.rules.specs.Consent.{dateValid}
 use Rattle.rules.specs.AgeNitrate.{safetyFactor, aerobicAge, sludgeAge, denitrified, covered}
-use Rattle.rules.specs.ReactorSteps.{reactorOf}
-use Rattle.rules.specs.TermSteps.{aerobicShare, termShare, nitrifies, termFraction, termCapacity, termRemoves, termDenitrified, termCovered}
+use Rattle.rules.specs.ReactorSteps.{reactorBy, reactorDosed, reactorOf}
+use Rattle.rules.specs.TermSteps.{aerobicShare, termShare, nitrifies, termFraction, removesFrom200, termRemoves, termDenitrified, termCovered}
 use Rattle.rules.specs.Choosing.{grid}
 use Rattle.rules.specs.Ranges.{GridFraction}
 use Rattle.rules.specs.declared.Plant.{Plant}
@@ -37,7 +37,7 @@ share-most a f low = go (up (1000 * a) (1000 - f)) (up-le (1000 * a) (1000 - f) 
 
 module _ (p : Plant) (x : Concentrations) (f : ℕ) (grid : GridFraction f) (term : Term) (at : AtDesign p term) where
   share : termShare p (reactorOf p x f) term ≤ 1000 - f
-  unfolding termShare reactorOf
+  unfolding termShare reactorOf reactorDosed reactorBy
   share = rw (at .temperature) (share-most (aerobicAge (safetyFactor (p .load)) (p .«design_temperature»)) f (omega arith))
 
   -- nitrification is kept
@@ -47,12 +47,12 @@ module _ (p : Plant) (x : Concentrations) (f : ℕ) (grid : GridFraction f) (ter
 
   -- the fraction is the design's
   fraction-at : termFraction p (reactorOf p x f) term ≡ f
-  unfolding termFraction reactorOf
+  unfolding termFraction reactorOf reactorDosed reactorBy
   fraction-at = omega (arith, share)
 
   -- so the term is covered where the design is
   pub covered-at :
       termCovered p x (reactorOf p x f) term
       ≡ covered (reactorOf p x f .removes) (reactorOf p x f .«removed_by_dose») (reactorOf p x f .denitrified)
-  unfolding termCovered termRemoves termCapacity termDenitrified reactorOf
+  unfolding termCovered termRemoves removesFrom200 termDenitrified reactorOf reactorDosed reactorBy
   covered-at = rw (fraction-at, at .temperature, at .target, le-leb leastFraction f (grid .least))

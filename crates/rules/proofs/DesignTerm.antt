@@ -15,13 +15,13 @@ use Rattle.rules.specs.PlantData.{within, plantFigures, figuresWithoutDo
 use Rattle.rules.specs.Consent.{dateValid, termValid, termsOf, every, consentValid}
 use Rattle.rules.specs.Accepting.{valuesOf, readingsRules, bulkingRule, dataRules, accept}
 use Rattle.rules.specs.AgeNitrate.{denitrified, covered, onGrid}
-use Rattle.rules.specs.ReactorSteps.{sludgeProduction, reactorOf}
+use Rattle.rules.specs.ReactorSteps.{sludgeProduction, reactorBy, reactorDosed, reactorOf}
 use Rattle.rules.specs.SettlingSteps.{settlingOf}
 use Rattle.rules.specs.AerationSteps.{aerationBy, aerationSaving, aerationOf}
 use Rattle.rules.specs.TermSteps.{termShare, nitrifies, termFraction, termRemoves, termCovered}
 use Rattle.rules.specs.Examining.{totalOf, sheetFrom, sheetOf, tankRules, gridRule, candidateRules, permitted, examine, examinationRules}
-use Rattle.rules.specs.Choosing.{candidateOf, candidateTotal, NotBefore, ChosenAccepted, Chosen}
-use Rattle.rules.specs.OtherSteps.{Calculation, ChosenAcceptedWith, SameAnswers}
+use Rattle.rules.specs.Choosing.{candidateOf, candidateTotal, NotBeforeBy, NotBefore, ChosenAccepted, Chosen}
+use Rattle.rules.specs.OtherSteps.{Calculation, totalWith, ChosenAcceptedWith, SameAnswers}
 use Rattle.rules.specs.WithoutTerms.{withConsent}
 use Rattle.rules.specs.Ranges.{GridFraction}
 use Rattle.rules.specs.declared.Plant.{Plant}
@@ -39,6 +39,7 @@ use Rattle.rules.proofs.Tests.{within-between, all-between}
 use Rattle.rules.proofs.RangeFacts.{grid-ranges}
 use Rattle.rules.proofs.EveryTerm.{every-inserted}
 use Rattle.rules.proofs.Examined.{examine-by-rules}
+use Rattle.rules.proofs.ChosenOnce.{same-order}
 use Rattle.rules.proofs.OtherAnswers.{same-answers}
 use Rattle.rules.proofs.DesignFraction.{AtDesign, nitrified-at, covered-at}
 
@@ -93,7 +94,7 @@ module _ (p : Plant) (more fewer : Consent) (h : OneMore p more fewer) where
       go true e = ap (λ (v : Bool). verdict (rule Refusal.PlantData (plantInRange p) ∷ bulkingRule p ∷ (readingsRules p r ++ (rule Refusal.Terms v ∷ [])))) (consents-valid (subst T (sym e) tt))
 
   candidate-rules : (x : Concentrations) (y : Candidate) → verdict (candidateRules (withConsent more p) x y) ≡ verdict (candidateRules (withConsent fewer p) x y)
-  unfolding candidateRules withConsent reactorOf settlingOf sludgeProduction nitrifies termShare termFraction termRemoves termCovered
+  unfolding candidateRules withConsent reactorOf reactorDosed reactorBy settlingOf sludgeProduction nitrifies termShare termFraction termRemoves termCovered
   candidate-rules x y = go (onGrid (p .tank) y) refl
     where
       reactor : Reactor
@@ -129,15 +130,17 @@ module _ (p : Plant) (more fewer : Consent) (h : OneMore p more fewer) where
       }
 
   same : SameAnswers underFewer (withConsent more p)
-  unfolding underFewer withConsent sheetOf sheetFrom totalOf reactorOf sludgeProduction settlingOf aerationOf aerationSaving aerationBy
+  unfolding underFewer withConsent sheetOf sheetFrom totalOf reactorOf reactorDosed reactorBy sludgeProduction settlingOf aerationOf aerationSaving aerationBy
   same = same-answers underFewer (withConsent more p) data-rules candidate-rules (λ x y. refl)
 
-  not-before : (x : Concentrations) (d y : Candidate) → NotBefore (withConsent more p) x d y ↔ NotBefore (withConsent fewer p) x d y
-  unfolding withConsent candidateTotal totalOf reactorOf sludgeProduction settlingOf
-  not-before x d y = (
-    λ n. record { total = n .total; fraction = n .fraction; ratio = n .ratio; time = n .time },
-    λ n. record { total = n .total; fraction = n .fraction; ratio = n .ratio; time = n .time },
-  )
+  not-before :
+      (x : Concentrations) (d y : Candidate)
+      → NotBeforeBy (totalWith underFewer (withConsent more p) x) d y ↔ NotBefore (withConsent fewer p) x d y
+  unfolding underFewer withConsent sheetOf sheetFrom candidateTotal
+  not-before x d y =
+      let own = totalWith underFewer (withConsent more p) x in
+      let fewerTotal = candidateTotal (withConsent fewer p) x in
+      (λ n. same-order own fewerTotal (λ z. refl) d y n, λ n. same-order fewerTotal own (λ z. refl) d y n)
 
   chosen : (r : Readings) (a : Answer) → Chosen (withConsent more p) r a ↔ Chosen (withConsent fewer p) r a
   unfolding underFewer withConsent accept permitted valuesOf
@@ -156,7 +159,7 @@ module _ (p : Plant) (more fewer : Consent) (h : OneMore p more fewer) where
           record { member = e .member; allowed = e .allowed; figures = e .figures; rivals = λ y g t. not-before x (candidateOf s) y .1 (e .rivals y g t) }
 
   examined : (r : Readings) (y : Candidate) → examine (withConsent more p) r y ≡ examine (withConsent fewer p) r y
-  unfolding underFewer withConsent valuesOf examinationRules sheetOf sheetFrom totalOf reactorOf sludgeProduction settlingOf aerationOf aerationSaving aerationBy
+  unfolding underFewer withConsent valuesOf examinationRules sheetOf sheetFrom totalOf reactorOf reactorDosed reactorBy sludgeProduction settlingOf aerationOf aerationSaving aerationBy
   examined r y = same .answer r y ∙ sym (examine-by-rules (withConsent fewer p) r y)
 
 -- What two consents answer alike, for all readings and candidates.

@@ -1,5 +1,5 @@
--- A larger dose never loses a permitted candidate, and a choice with it is never larger; of a sheet it moves oxygen and
--- transfer alone. Assumes nothing.
+-- A larger dose never loses a permitted candidate. In the way by BOD a choice with it is never larger, and of a sheet it moves oxygen
+-- and transfer alone; in the way by COD it adds sludge. Assumes nothing.
 use mathlib.Core.Path.{_≡_, refl, ap, sym, subst, _∙_}
 use Prim.Native.Nat.{ℕ, _+_, _*_, _≤_}
 use native.Mathlib.Omega.{arith}
@@ -12,8 +12,8 @@ use Rattle.rules.specs.Rules.{allKept}
 use Rattle.rules.specs.PlantData.{within, allWithin, figuresWithoutDose, plantInRange}
 use Rattle.rules.specs.Consent.{termsOf}
 use Rattle.rules.specs.Accepting.{valuesOf, rulesAfterFigures, dataRules, accept}
-use Rattle.rules.specs.AgeNitrate.{removedByDose, covered}
-use Rattle.rules.specs.ReactorSteps.{sludgeProduction, reactorOf}
+use Rattle.rules.specs.AgeNitrate.{safetyFactor, aerobicAge, sludgeAge, correctedAge, removes, removedByDose, covered}
+use Rattle.rules.specs.ReactorSteps.{carbonSludgeIn, sludgeProduction, reactorBy, reactorDosed, reactorOf}
 use Rattle.rules.specs.SettlingSteps.{settlingOf}
 use Rattle.rules.specs.AerationSteps.{aerationBy, aerationSaving, aerationOf}
 use Rattle.rules.specs.TermSteps.{termShare, nitrifies, termFraction, termRemoves, termDenitrified, termCovered}
@@ -25,6 +25,8 @@ use Rattle.rules.specs.declared.Plant.{Plant}
 use Rattle.rules.specs.declared.Readings.{Readings}
 use Rattle.rules.specs.declared.Concentrations.{Concentrations}
 use Rattle.rules.specs.declared.Candidate.{Candidate}
+use Rattle.rules.specs.declared.Way.{Way}
+use Rattle.rules.specs.declared.Reactor.{Reactor}
 use Rattle.rules.specs.declared.Term.{Term}
 use Rattle.rules.specs.declared.Sheet.{Sheet}
 use Rattle.rules.specs.declared.Acceptance.{Acceptance}
@@ -39,11 +41,11 @@ use Rattle.rules.proofs.NoDose.{in-range-with-dose}
 
 -- a larger dose covers what a smaller one covers
 pub larger-covers :
-    (removes m n d : ℕ) → m ≤ n → T (covered removes (removedByDose m) d) → T (covered removes (removedByDose n) d)
+    (own m n d : ℕ) → m ≤ n → T (covered own (removedByDose m) d) → T (covered own (removedByDose n) d)
 unfolding covered removedByDose
-larger-covers removes m n d h t =
-    let c : 1000 * d ≤ removes + 1000 * down m 5 = leb→le (1000 * d) (removes + 1000 * down m 5) t in
-    le→leb (1000 * d) (removes + 1000 * down n 5) (omega arith)
+larger-covers own m n d h t =
+    let c : 1000 * d ≤ own + 1000 * down m 5 = leb→le (1000 * d) (own + 1000 * down m 5) t in
+    le→leb (1000 * d) (own + 1000 * down n 5) (omega arith)
 
 -- and in a term
 larger-covers-term :
@@ -51,7 +53,7 @@ larger-covers-term :
     → m ≤ n
     → T (termCovered (withDose m p) x (reactorOf (withDose m p) x f) term)
     → T (termCovered (withDose n p) x (reactorOf (withDose n p) x f) term)
-unfolding withDose reactorOf termShare termFraction termRemoves termDenitrified termCovered
+unfolding withDose reactorOf reactorDosed reactorBy removedByDose termShare termFraction termRemoves termDenitrified termCovered
 larger-covers-term p x f term m n h t =
     let reactor = reactorOf p x f in
     larger-covers (termRemoves p x reactor term) m n (termDenitrified reactor term) h t
@@ -62,7 +64,7 @@ pub larger-dose :
     → m ≤ n
     → T (permitted (withDose m p) x y)
     → T (permitted (withDose n p) x y)
-unfolding withDose reactorOf settlingOf termShare nitrifies termFraction termRemoves termDenitrified
+unfolding withDose reactorOf reactorDosed reactorBy removedByDose settlingOf termShare nitrifies termFraction termRemoves termDenitrified
 larger-dose p x y m n h t =
     let k = permitted-keeps (withDose m p) x y .0 t in
     let own = fraction-keeps (withDose m p) x (y .fraction) .0 (k .fraction) in
@@ -84,17 +86,39 @@ larger-dose p x y m n h t =
       tank = k .tank;
     })
 
--- the first thirteen figures of a sheet, up to recirculation, do not know the dose: oxygen and transfer alone do
-pub sheet-but-oxygen :
-    (p : Plant) (x : Concentrations) (y : Candidate) (n : ℕ)
-    → take 13 (sheetFigures (sheetOf (withDose n p) x y)) ≡ take 13 (sheetFigures (sheetOf p x y))
-unfolding withDose sheetFigures sheetOf sheetFrom totalOf reactorOf sludgeProduction settlingOf aerationOf aerationSaving aerationBy
-sheet-but-oxygen p x y n = refl
+-- by BOD the carbon sludge does not know the dose
+same-carbon :
+    (way : Way) (flow : ℕ) (x : Concentrations) (m n u : ℕ)
+    → way ≡ Way.Bod
+    → carbonSludgeIn way flow x m u ≡ carbonSludgeIn way flow x n u
+unfolding carbonSludgeIn
+same-carbon Way.Bod flow x m n u e = refl
+same-carbon Way.Cod flow x m n u e = absurd (let z : _≡_ {A = ℕ} 0 1 = cc in omega arith)
 
--- the total does not know the dose
-same-total : (p : Plant) (x : Concentrations) (y : Candidate) (n : ℕ) → candidateTotal (withDose n p) x y ≡ candidateTotal p x y
-unfolding withDose candidateTotal totalOf reactorOf sludgeProduction settlingOf
-same-total p x y n = refl
+module _ (p : Plant) (x : Concentrations) (y : Candidate) (n : ℕ) (bod : p .way ≡ Way.Bod) where
+  -- the reactor with any other carbon sludge
+  withCarbon : ℕ → Reactor
+  withCarbon carbon =
+      reactorBy (removes (p .way) (p .process) x (y .fraction) (p .«design_temperature»)) (λ (u : ℕ). carbon) (p .dose) p x (y .fraction)
+
+  corrected : ℕ
+  corrected = correctedAge (sludgeAge (aerobicAge (safetyFactor (p .load)) (p .«design_temperature»)) (y .fraction)) (p .«design_temperature»)
+
+  own : carbonSludgeIn (p .way) (p .flow) x n corrected ≡ carbonSludgeIn (p .way) (p .flow) x (p .dose) corrected
+  own = same-carbon (p .way) (p .flow) x n (p .dose) corrected bod
+
+  -- By BOD the first thirteen figures of a sheet, up to recirculation, do not know the dose: oxygen and transfer alone do.
+  pub sheet-but-oxygen : take 13 (sheetFigures (sheetOf (withDose n p) x y)) ≡ take 13 (sheetFigures (sheetOf p x y))
+  unfolding withCarbon corrected withDose sheetFigures sheetOf sheetFrom totalOf reactorOf reactorDosed reactorBy sludgeProduction settlingOf aerationOf aerationSaving aerationBy
+  sheet-but-oxygen =
+      let tank = settlingOf p (y .«return_ratio») (y .thickening) in
+      let air = aerationOf p x (reactorOf p x (y .fraction)) in
+      ap (λ (carbon : ℕ). take 13 (sheetFigures (sheetFrom p y (withCarbon carbon) tank air))) own
+
+  -- nor does the total
+  same-total : candidateTotal (withDose n p) x y ≡ candidateTotal p x y
+  unfolding withCarbon corrected withDose candidateTotal totalOf reactorOf reactorDosed reactorBy sludgeProduction settlingOf
+  same-total = ap (λ (carbon : ℕ). totalOf p (withCarbon carbon) (settlingOf p (y .«return_ratio») (y .thickening))) own
 
 accepted-with : (p : Plant) (r : Readings) (x : Concentrations) (m n : ℕ) → n ≤ mostDose → accept (withDose m p) r ≡ Acceptance.Accepted x → accept (withDose n p) r ≡ Acceptance.Accepted x
 unfolding withDose dataRules figuresWithoutDose valuesOf
@@ -108,15 +132,16 @@ accepted-with p r x m n h e =
     (and-i (plantInRange (withDose n p)) later dosed (and-r (plantInRange (withDose m p)) later (given .0)))
     ∙ ap Acceptance.Accepted (given .1)
 
--- Where there is a design with a dose, there is one with every larger dose up to the largest, and no larger.
+-- By BOD, where there is a design with a dose, there is one with every larger dose up to the largest, and no larger.
 pub larger-dose-choice :
     (p : Plant) (r : Readings) (m n : ℕ) (s : Sheet) (a : Answer)
+    → p .way ≡ Way.Bod
     → m ≤ n
     → n ≤ mostDose
     → Chosen (withDose m p) r (Answer.Designed s)
     → Chosen (withDose n p) r a
     → DesignAtMost (s .total) a
-larger-dose-choice p r m n s a h k c d = go (accept (withDose m p) r) refl c
+larger-dose-choice p r m n s a bod h k c d = go (accept (withDose m p) r) refl c
   where
     go :
         (o : Acceptance) → accept (withDose m p) r ≡ o → ChosenAccepted (withDose m p) (Answer.Designed s) o → DesignAtMost (s .total) a
@@ -125,7 +150,7 @@ larger-dose-choice p r m n s a h k c d = go (accept (withDose m p) r) refl c
         wider-choice (withDose m p) (withDose n p) x s a
         (record {
           permits = λ y t. larger-dose p x y m n h t;
-          total = λ y. let e = same-total p x y m in let f = same-total p x y n in omega arith;
+          total = λ y. let e = same-total p x y m bod in let f = same-total p x y n bod in omega arith;
         })
         l
         (subst (λ (o : Acceptance). ChosenAccepted (withDose n p) a o) (accepted-with p r x m n k q) d)

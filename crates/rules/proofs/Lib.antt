@@ -29,6 +29,11 @@ pub mod TankApart
 pub mod NoDose
 pub mod StepsWithoutDose
 pub mod LargerDose
+pub mod ByBod
+pub mod ByCod
 pub mod Numeral
+pub mod CodExactFigures
+pub mod CodSides
 pub mod Computing
 pub mod WorkedCases
+pub mod WorkedCodCases

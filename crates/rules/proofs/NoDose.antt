@@ -12,11 +12,11 @@ use Rattle.rules.specs.PlantData.{within, Figure, allWithin, figure, fig
 use Rattle.rules.specs.Consent.{termsOf, every}
 use Rattle.rules.specs.Accepting.{rulesAfterFigures, dataRules}
 use Rattle.rules.specs.AgeNitrate.{removedByBod, removedByDose, removable, covered}
-use Rattle.rules.specs.ReactorSteps.{reactorOf}
+use Rattle.rules.specs.ReactorSteps.{reactorBy, reactorDosed, reactorOf}
 use Rattle.rules.specs.SettlingSteps.{settlingOf}
 use Rattle.rules.specs.AerationSteps.{denitrifiedByBod, aerationSaving, aerationOf}
 use Rattle.rules.specs.TermSteps.{nitrifies, termRemoves, termDenitrified, termCovered}
-use Rattle.rules.specs.Examining.{sheetFrom, sheetOf, tankRules, gridRule, candidateRules}
+use Rattle.rules.specs.Examining.{sheetFrom, sheetOf, fractionRules, tankRules, gridRule, candidateRules}
 use Rattle.rules.specs.OtherSteps.{SameAnswers}
 use Rattle.rules.specs.WithoutDose.{dataRulesWithoutDose, coveredByBod, termCoveredByBod, rulesWithoutDose, sheetWithoutDose, stepsWithoutDose}
 use Rattle.rules.specs.declared.Plant.{Plant}
@@ -53,9 +53,14 @@ all-left : (d : ℕ) → denitrifiedByBod d 0 ≡ d
 unfolding denitrifiedByBod
 all-left d = omega arith
 
-removes-none : (p : Plant) (x : Concentrations) (f : ℕ) → p .dose ≡ 0 → reactorOf p x f .«removed_by_dose» ≡ 0
-unfolding reactorOf removedByDose
-removes-none p x f e = ap removedByDose e
+-- the reactor is the one without a dose
+no-dosed : (p : Plant) (x : Concentrations) (f : ℕ) → p .dose ≡ 0 → reactorOf p x f ≡ reactorDosed 0 p x f
+unfolding reactorOf
+no-dosed p x f e = ap (λ (n : ℕ). reactorDosed n p x f) e
+
+removes-none : (p : Plant) (x : Concentrations) (f : ℕ) → reactorDosed 0 p x f .«removed_by_dose» ≡ 0
+unfolding reactorDosed reactorBy removedByDose
+removes-none p x f = refl
 
 -- so in a term, and in every term
 term-without-dose :
@@ -84,21 +89,24 @@ data-rules p r e =
 candidate-rules : (p : Plant) (x : Concentrations) (y : Candidate) → p .dose ≡ 0 → candidateRules p x y ≡ rulesWithoutDose p x y
 unfolding candidateRules rulesWithoutDose
 candidate-rules p x y e =
-    let reactor = reactorOf p x (y .fraction) in
+    let reactor = reactorDosed 0 p x (y .fraction) in
     let tank = tankRules p (settlingOf p (y .«return_ratio») (y .thickening)) in
     let nitrified = rule Refusal.Nitrification (every (nitrifies p reactor) (termsOf (p .consent))) in
-    let none = removes-none p x (y .fraction) e in
-    ap (λ (b : Bool). gridRule p y ∷ rule Refusal.Nitrate b ∷ nitrified ∷ rule Refusal.TermNitrate (every (termCovered p x reactor) (termsOf (p .consent))) ∷ tank)
+    let none = removes-none p x (y .fraction) in
+    ap (λ (own : Reactor). gridRule p y ∷ (fractionRules p x own ++ tank)) (no-dosed p x (y .fraction) e)
+    ∙ (ap (λ (b : Bool). gridRule p y ∷ rule Refusal.Nitrate b ∷ nitrified ∷ rule Refusal.TermNitrate (every (termCovered p x reactor) (termsOf (p .consent))) ∷ tank)
     (ap (λ (n : ℕ). covered (reactor .removes) n (reactor .denitrified)) none ∙ covered-without-dose (reactor .removes) (reactor .denitrified))
     ∙ ap (λ (b : Bool). gridRule p y ∷ rule Refusal.Nitrate (coveredByBod (reactor .removes) (reactor .denitrified)) ∷ nitrified ∷ rule Refusal.TermNitrate b ∷ tank)
-    (terms-without-dose p x reactor (termsOf (p .consent)) none)
+    (terms-without-dose p x reactor (termsOf (p .consent)) none))
 
 same-sheet : (p : Plant) (x : Concentrations) (y : Candidate) → p .dose ≡ 0 → sheetOf p x y ≡ sheetWithoutDose p x y
 unfolding sheetOf sheetWithoutDose aerationOf
 same-sheet p x y e =
-    let reactor = reactorOf p x (y .fraction) in
-    ap (λ (d : ℕ). sheetFrom p y reactor (settlingOf p (y .«return_ratio») (y .thickening)) (aerationSaving d p x reactor))
-    (ap (denitrifiedByBod (reactor .denitrified)) (removes-none p x (y .fraction) e) ∙ all-left (reactor .denitrified))
+    let reactor = reactorDosed 0 p x (y .fraction) in
+    let tank = settlingOf p (y .«return_ratio») (y .thickening) in
+    ap (λ (own : Reactor). sheetFrom p y own tank (aerationOf p x own)) (no-dosed p x (y .fraction) e)
+    ∙ ap (λ (d : ℕ). sheetFrom p y reactor tank (aerationSaving d p x reactor))
+    (ap (denitrifiedByBod (reactor .denitrified)) (removes-none p x (y .fraction)) ∙ all-left (reactor .denitrified))
 
 -- For all data: a dose of 0 changes no acceptance, no sheet, no refusal and no choice.
 pub no-dose : (p : Plant) → p .dose ≡ 0 → SameAnswers stepsWithoutDose p

@@ -7,19 +7,20 @@ use mathlib.Core.List.{List, _++_}
 use lib.Dec.{T}
 use Rattle.rules.specs.Rules.{Rule, allKept, verdict, after}
 use Rattle.rules.specs.Accepting.{valuesOf, dataRules, acceptBy, accept}
-use Rattle.rules.specs.Examining.{sheetOf, candidateRules, permitted, answerBy, examine, examinationRules}
-use Rattle.rules.specs.Choosing.{candidateOf, ChosenAccepted, Chosen}
-use Rattle.rules.specs.OtherSteps.{Calculation, acceptWith, permittedWith, examineWith, ChosenAcceptedWith, ChosenWith, SameAnswers}
+use Rattle.rules.specs.Examining.{sheetFrom, sheetOf, candidateRules, permitted, answerBy, examine, examinationRules}
+use Rattle.rules.specs.Choosing.{candidateOf, candidateTotal, ChosenAccepted, Chosen}
+use Rattle.rules.specs.OtherSteps.{Calculation, acceptWith, permittedWith, examineWith, totalWith, ChosenAcceptedWith, ChosenWith, SameAnswers}
 use Rattle.rules.specs.declared.Plant.{Plant}
 use Rattle.rules.specs.declared.Readings.{Readings}
 use Rattle.rules.specs.declared.Concentrations.{Concentrations}
 use Rattle.rules.specs.declared.Candidate.{Candidate}
+use Rattle.rules.specs.declared.Sheet.{Sheet}
 use Rattle.rules.specs.declared.Verdict.{Verdict}
 use Rattle.rules.specs.declared.Acceptance.{Acceptance}
 use Rattle.rules.specs.declared.Answer.{Answer}
 use Rattle.rules.proofs.RuleLists.{all-kept-verdict, verdict-append}
 use Rattle.rules.proofs.Examined.{examine-by-rules}
-use Rattle.rules.proofs.ChosenOnce.{neither-before}
+use Rattle.rules.proofs.ChosenOnce.{neither-before, same-order}
 
 -- two tests that hold together are one
 same-test : (a b : Bool) → T a ↔ T b → a ≡ b
@@ -58,6 +59,11 @@ module _
       ∙ (ap (after (verdict (s .forData p r))) (forCandidate x y) ∙ sym (verdict-append (s .forData p r) (s .forCandidate p x y)))))
       ∙ ap (answerBy (verdict (s .forData p r ++ s .forCandidate p x y))) (sheets x y))
 
+  -- a candidate has one total
+  same-total : (x : Concentrations) (y : Candidate) → candidateTotal p x y ≡ totalWith s p x y
+  unfolding sheetOf sheetFrom candidateTotal
+  same-total x y = ap (λ (sheet : Sheet). sheet .total) (sheets x y)
+
   same-choice : (r : Readings) (a : Answer) → Chosen p r a ↔ ChosenWith s p r a
   same-choice r a = rw (← same-accepted r) (go a (accept p r))
     where
@@ -76,14 +82,14 @@ module _
               member = h .member;
               allowed = forth x (candidateOf d) (h .allowed);
               figures = h .figures ∙ sheets x (candidateOf d);
-              rivals = λ y g t. h .rivals y g (back x y t);
+              rivals = λ y g t. same-order (candidateTotal p x) (totalWith s p x) (same-total x) (candidateOf d) y (h .rivals y g (back x y t));
             },
         λ h.
             record {
               member = h .member;
               allowed = back x (candidateOf d) (h .allowed);
               figures = h .figures ∙ sym (sheets x (candidateOf d));
-              rivals = λ y g t. h .rivals y g (forth x y t);
+              rivals = λ y g t. same-order (totalWith s p x) (candidateTotal p x) (λ z. sym (same-total x z)) (candidateOf d) y (h .rivals y g (forth x y t));
             },
       )
 
@@ -99,7 +105,7 @@ chosen-with-once s p r a b = go a b (acceptWith s p r)
     go a b (Acceptance.Refused n) e f = e ∙ sym f
     go (Answer.Designed d) (Answer.Designed t) (Acceptance.Accepted x) e f =
         let one : candidateOf d ≡ candidateOf t =
-        neither-before p x (candidateOf d) (candidateOf t) (e .rivals (candidateOf t) (f .member) (f .allowed)) (f .rivals (candidateOf d) (e .member) (e .allowed)) in
+        neither-before (totalWith s p x) (candidateOf d) (candidateOf t) (e .rivals (candidateOf t) (f .member) (f .allowed)) (f .rivals (candidateOf d) (e .member) (e .allowed)) in
         ap Answer.Designed (e .figures ∙ (ap (s .sheet p x) one ∙ sym (f .figures)))
     go (Answer.Designed d) (Answer.Refused n) (Acceptance.Accepted x) e f = absurd (f .1 (candidateOf d) (e .member) (e .allowed))
     go (Answer.Refused n) (Answer.Designed t) (Acceptance.Accepted x) e f = absurd (e .1 (candidateOf t) (f .member) (f .allowed))

@@ -9,8 +9,8 @@ use Rattle.rules.specs.ReactorSteps.{reactorOf}
 use Rattle.rules.specs.SettlingSteps.{settlingOf}
 use Rattle.rules.specs.AerationSteps.{denitrifiedByBod, oxygenTransfer, transferOf, aerationBy, aerationSaving, aerationOf}
 use Rattle.rules.specs.Examining.{sheetFrom, sheetOf, permitted, answerBy, examine, examinationRules}
-use Rattle.rules.specs.Choosing.{candidateOf, ChosenAccepted, Chosen}
-use Rattle.rules.specs.OtherSteps.{ChosenAcceptedWith, ChosenWith, SameAnswers}
+use Rattle.rules.specs.Choosing.{candidateOf, candidateTotal, ChosenAccepted, Chosen}
+use Rattle.rules.specs.OtherSteps.{totalWith, ChosenAcceptedWith, ChosenWith, SameAnswers}
 use Rattle.rules.specs.WithoutPauses.{aerationWithoutPauses, sheetWithoutPauses, stepsWithoutPauses, pauses, unpausedSheet, unpaused, SameButTransfer}
 use Rattle.rules.specs.declared.Plant.{Plant}
 use Rattle.rules.specs.declared.Process.{Process}
@@ -22,6 +22,7 @@ use Rattle.rules.specs.declared.Verdict.{Verdict}
 use Rattle.rules.specs.declared.Acceptance.{Acceptance}
 use Rattle.rules.specs.declared.Answer.{Answer}
 use Rattle.rules.proofs.Examined.{examine-by-rules}
+use Rattle.rules.proofs.ChosenOnce.{same-order}
 use Rattle.rules.proofs.OtherAnswers.{same-answers, chosen-with-once}
 
 -- a process that does not pause has document 01's transfer
@@ -56,11 +57,11 @@ unpaused-by p (Verdict.Broken n) s = refl
 
 -- demand 3 over the steps without pauses, from demand 3
 chosen-before : (p : Plant) (a : Answer) (o : Acceptance) → ChosenAccepted p a o → ChosenAcceptedWith stepsWithoutPauses p (unpaused p a) o
-unfolding stepsWithoutPauses unpaused unpausedSheet candidateOf permitted
+unfolding stepsWithoutPauses unpaused unpausedSheet candidateOf permitted candidateTotal sheetWithoutPauses sheetFrom
 chosen-before p a (Acceptance.Refused n) e = ap (unpaused p) e
 chosen-before p (Answer.Refused n) (Acceptance.Accepted x) h = h
 chosen-before p (Answer.Designed s) (Acceptance.Accepted x) h =
-    record { member = h .member; allowed = h .allowed; figures = ap (unpausedSheet p) (h .figures) ∙ same-sheet p x (candidateOf s); rivals = h .rivals }
+    record { member = h .member; allowed = h .allowed; figures = ap (unpausedSheet p) (h .figures) ∙ same-sheet p x (candidateOf s); rivals = λ y g t. same-order (candidateTotal p x) (totalWith stepsWithoutPauses p x) (λ z. refl) (candidateOf s) y (h .rivals y g t) }
 
 -- For all data: but for the transfer every answer and the choice are as before.
 pub same-but-transfer : (p : Plant) → SameButTransfer p

@@ -1,4 +1,5 @@
--- The rounding facts, one law for any divisor each way. Assumes nothing.
+-- The rounding facts, one law for any divisor each way; and a result that is a definition's value has the definition's limit. Assumes
+-- nothing.
 use mathlib.Core.Logic.{_↔_}
 use mathlib.Core.Path.{_≡_}
 use Prim.Native.Nat.{ℕ, _+_, _-_, _*_, _≤_, _<_, suc}
@@ -32,3 +33,6 @@ pub up-mono : (a b d : ℕ) → 0 < d → a ≤ b → up a d ≤ up b d
 up-mono a b d pos h =
     let whole : b ≤ up b d * d = up-le b d (up b d) pos .0 (le-refl (up b d)) in
     up-le a d (up b d) pos .1 (omega arith)
+
+pub limited : {r value most : ℕ} → r ≡ value → value ≤ most → (r ≡ value) × (r ≤ most)
+limited e h = (e, omega arith)

@@ -4,13 +4,13 @@ use mathlib.Core.Path.{_≡_, refl}
 use Prim.Native.Nat.{ℕ}
 use Rattle.rules.specs.PlantData.{figuresWithoutDose}
 use Rattle.rules.specs.Accepting.{valuesOf}
-use Rattle.rules.specs.ReactorSteps.{sludgeProduction, reactorOf}
+use Rattle.rules.specs.ReactorSteps.{sludgeProduction, reactorBy, reactorDosed}
 use Rattle.rules.specs.SettlingSteps.{settlingOf}
 use Rattle.rules.specs.AerationSteps.{aerationBy, aerationSaving}
 use Rattle.rules.specs.TermSteps.{termShare, nitrifies, termFraction, termRemoves, termDenitrified}
 use Rattle.rules.specs.Examining.{totalOf, sheetFrom}
-use Rattle.rules.specs.Choosing.{candidateOf, candidateTotal, NotBefore}
-use Rattle.rules.specs.OtherSteps.{acceptWith, permittedWith, examineWith, ChosenAcceptedWith, ChosenWith}
+use Rattle.rules.specs.Choosing.{candidateOf, NotBeforeBy}
+use Rattle.rules.specs.OtherSteps.{acceptWith, permittedWith, examineWith, totalWith, ChosenAcceptedWith, ChosenWith}
 use Rattle.rules.specs.WithoutDose.{withDose, dataRulesWithoutDose, termCoveredByBod, rulesWithoutDose, sheetWithoutDose, stepsWithoutDose}
 use Rattle.rules.specs.declared.Plant.{Plant}
 use Rattle.rules.specs.declared.Readings.{Readings}
@@ -18,6 +18,7 @@ use Rattle.rules.specs.declared.Concentrations.{Concentrations}
 use Rattle.rules.specs.declared.Candidate.{Candidate}
 use Rattle.rules.specs.declared.Acceptance.{Acceptance}
 use Rattle.rules.specs.declared.Answer.{Answer}
+use Rattle.rules.proofs.ChosenOnce.{same-order}
 
 -- what the steps and the totals rest on
 withoutDose : Unit {0}
@@ -36,9 +37,9 @@ unfolding
     sheetWithoutDose
     stepsWithoutDose
     sheetFrom
-    candidateTotal
     totalOf
-    reactorOf
+    reactorBy
+    reactorDosed
     sludgeProduction
     settlingOf
     aerationSaving
@@ -55,12 +56,14 @@ pub dose-not-looked-at :
 unfolding withoutDose
 dose-not-looked-at p n r x y = (refl, refl, refl, refl)
 
-not-before : (p : Plant) (x : Concentrations) (n : ℕ) (d y : Candidate) → NotBefore (withDose n p) x d y ↔ NotBefore p x d y
+not-before :
+    (p : Plant) (x : Concentrations) (n : ℕ) (d y : Candidate)
+    → NotBeforeBy (totalWith stepsWithoutDose (withDose n p) x) d y ↔ NotBeforeBy (totalWith stepsWithoutDose p x) d y
 unfolding withoutDose
-not-before p x n d y = (
-  λ h. record { total = h .total; fraction = h .fraction; ratio = h .ratio; time = h .time },
-  λ h. record { total = h .total; fraction = h .fraction; ratio = h .ratio; time = h .time },
-)
+not-before p x n d y =
+    let one = totalWith stepsWithoutDose p x in
+    let other = totalWith stepsWithoutDose (withDose n p) x in
+    (λ h. same-order other one (λ z. refl) d y h, λ h. same-order one other (λ z. refl) d y h)
 
 -- and demand 3 over them
 pub dose-not-looked-at-by-choice : (p : Plant) (n : ℕ) (r : Readings) (a : Answer) → ChosenWith stepsWithoutDose (withDose n p) r a ↔ ChosenWith stepsWithoutDose p r a

@@ -7,7 +7,7 @@ use Rattle.rules.specs.Limits.{mostIndex}
 use Rattle.rules.specs.Rules.{Rule, rule, verdict}
 use Rattle.rules.specs.PlantData.{plantInRange}
 use Rattle.rules.specs.Consent.{consentValid}
-use Rattle.rules.specs.LabReadings.{readingNoNumber, readingInRange, readingValue, codRatioBroken}
+use Rattle.rules.specs.LabReadings.{readingNoNumber, readingInRange, readingValue, ratioRefused}
 use Rattle.rules.specs.declared.Plant.{Plant}
 use Rattle.rules.specs.declared.PrimarySettling.{PrimarySettling}
 use Rattle.rules.specs.declared.Parameter.{Parameter}
@@ -34,15 +34,23 @@ abbrev pub readingRules : ℕ → PrimarySettling → Parameter → Reading → 
 readingRules q s k r =
     rule Refusal.NoNumber (not (readingNoNumber r)) ∷ rule Refusal.ReadingRange (readingInRange q s k r) ∷ []
 
--- 2 and 3 of each reading in turn; then 4
-abbrev pub readingsRules : Plant → Readings → List Rule
-readingsRules p r =
+-- 4: the COD is not too high beside the BOD, in the way by BOD
+abbrev pub ratioRule : Plant → Readings → Rule
+ratioRule p r = rule Refusal.CodRatio (not (ratioRefused (p .way) (valuesOf p r .bod) (valuesOf p r .cod)))
+
+-- 2 and 3 of each reading in turn; then what is asked of all readings together
+abbrev pub readingsRulesWith : List Rule → Plant → Readings → List Rule
+readingsRulesWith together p r =
     readingRules (p .flow) (p .«primary_settling») Parameter.Bod (r .bod)
     ++ (readingRules (p .flow) (p .«primary_settling») Parameter.Cod (r .cod)
     ++ (readingRules (p .flow) (p .«primary_settling») Parameter.Solids (r .solids)
     ++ (readingRules (p .flow) (p .«primary_settling») Parameter.Nitrogen (r .nitrogen)
     ++ (readingRules (p .flow) (p .«primary_settling») Parameter.Phosphorus (r .phosphorus)
-    ++ (rule Refusal.CodRatio (not (codRatioBroken (valuesOf p r .bod) (valuesOf p r .cod))) ∷ [])))))
+    ++ together))))
+
+-- that is 4
+abbrev pub readingsRules : Plant → Readings → List Rule
+readingsRules p r = readingsRulesWith (ratioRule p r ∷ []) p r
 
 -- 17: no bulking sludge
 abbrev pub bulkingRule : Plant → Rule

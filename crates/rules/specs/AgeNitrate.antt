@@ -6,9 +6,12 @@ use lib.Dec.{leb}
 use Rattle.rules.specs.Rounding.{down, up}
 use Rattle.rules.specs.PlantData.{within}
 use Rattle.rules.specs.Limits.{leastFraction, mostFraction, leastRatio, mostRatio, leastTime, mostTime}
+use Rattle.rules.specs.CodBalance.{removedByOxygen}
 use Rattle.rules.specs.declared.TankFlow.{TankFlow}
 use Rattle.rules.specs.declared.Candidate.{Candidate}
+use Rattle.rules.specs.declared.Concentrations.{Concentrations}
 use Rattle.rules.specs.declared.Process.{Process}
+use Rattle.rules.specs.declared.Way.{Way}
 
 -- the largest return ratio of the grid
 unfoldable pub largestReturnRatio : TankFlow → ℕ
@@ -84,20 +87,38 @@ capacity Process.Simultaneous fraction temperature corrected = uptakeCapacity fr
 capacity Process.Intermittent fraction temperature corrected = uptakeCapacity fraction corrected
 capacity (Process.StepFeed steps) fraction temperature corrected = risenCapacity (tableCapacity fraction) temperature
 
--- the nitrate that the tank's BOD removes, mg/m3, from K × C
+-- K × C, from f, T and U(T)
+unfoldable pub removesByBod : Process → Concentrations → ℕ → ℕ → ℕ → ℕ
+removesByBod process x fraction temperature corrected = capacity process fraction temperature corrected * x .bod
+
+-- what stands for it in the way by COD (document 02, item 12): a process that denitrifies by its oxygen uptake takes the COD's
+unfoldable pub removesByCod : Process → Concentrations → ℕ → ℕ → ℕ → ℕ
+removesByCod Process.PreAnoxic x fraction temperature corrected = removesByBod Process.PreAnoxic x fraction temperature corrected
+removesByCod Process.Simultaneous x fraction temperature corrected = removedByOxygen fraction (x .cod) (x .solids) corrected
+removesByCod Process.Intermittent x fraction temperature corrected = removedByOxygen fraction (x .cod) (x .solids) corrected
+removesByCod (Process.StepFeed steps) x fraction temperature corrected =
+    removesByBod (Process.StepFeed steps) x fraction temperature corrected
+
+-- K × C or what stands for it, in a way
+unfoldable pub removes : Way → Process → Concentrations → ℕ → ℕ → ℕ → ℕ
+removes Way.Bod process x fraction temperature corrected = removesByBod process x fraction temperature corrected
+removes Way.Cod process x fraction temperature corrected = removesByCod process x fraction temperature corrected
+
+-- the nitrate that the tank's own carbon removes, mg/m3, from K × C or what stands for it
 unfoldable pub removedByBod : ℕ → ℕ
-removedByBod removes = down removes 1000
+removedByBod own = down own 1000
 
 -- the nitrate that external carbon removes, mg/m3, from the dose as COD: one part for five (5-8; document
 -- 02, item 2)
 unfoldable pub removedByDose : ℕ → ℕ
 removedByDose dose = down dose 5
 
--- the nitrate that the tank can remove, mg/m3, from K × C and what the dose removes: the second of the two columns that
--- are read aloud
+-- the nitrate that the tank can remove, mg/m3, from K × C or what stands for it and what the dose removes: the second of the two
+-- columns that are read aloud
 unfoldable pub removable : ℕ → ℕ → ℕ
-removable removes byDose = removedByBod removes + byDose
+removable own byDose = removedByBod own + byDose
 
--- "covered", from K × C, what the dose removes and D: K × C + 1000 × down(dose / 5) ≥ 1000 × D (document 02, item 2)
+-- "covered", from K × C or what stands for it, what the dose removes and D: K × C + 1000 × down(dose / 5) ≥ 1000 × D (document 02,
+-- item 2)
 unfoldable pub covered : ℕ → ℕ → ℕ → Bool
-covered removes byDose d = leb (1000 * d) (removes + 1000 * byDose)
+covered own byDose d = leb (1000 * d) (own + 1000 * byDose)

@@ -15,6 +15,7 @@ use Rattle.rules.specs.Answers.{answerNumber, acceptanceNumber}
 use Rattle.rules.specs.Listing.{text, listing}
 use Rattle.rules.specs.declared.Plant.{Plant}
 use Rattle.rules.specs.declared.Process.{Process}
+use Rattle.rules.specs.declared.Way.{Way}
 use Rattle.rules.specs.declared.Precipitant.{Precipitant}
 use Rattle.rules.specs.declared.TankFlow.{TankFlow}
 use Rattle.rules.specs.declared.Removal.{Removal}
@@ -51,6 +52,7 @@ variant flow target surface depth process tank removal =
       «primary_settling» = PrimarySettling.None;
       dose = 0;
       consent = noTerms;
+      way = Way.Bod;
     }
 
 unfoldable pub caseA : Plant

@@ -33,17 +33,17 @@ candidateOf s = record { fraction = s .fraction; «return_ratio» = s .«return_
 unfoldable pub candidateTotal : Plant → Concentrations → Candidate → ℕ
 candidateTotal p x y = totalOf p (reactorOf p x (y .fraction)) (settlingOf p (y .«return_ratio») (y .thickening))
 
--- A rival y does not come before a design d: it has at least its total; with the same total no smaller fraction; with
--- the same fraction too no smaller return ratio; with that the same too no shorter thickening time.
-pub record NotBefore (p : Plant) (x : Concentrations) (d y : Candidate) : Type 0 where
-  pub total : candidateTotal p x d ≤ candidateTotal p x y
-  pub fraction : candidateTotal p x d ≡ candidateTotal p x y → d .fraction ≤ y .fraction
-  pub ratio : candidateTotal p x d ≡ candidateTotal p x y → d .fraction ≡ y .fraction → d .«return_ratio» ≤ y .«return_ratio»
-  pub time :
-      candidateTotal p x d ≡ candidateTotal p x y
-      → d .fraction ≡ y .fraction
-      → d .«return_ratio» ≡ y .«return_ratio»
-      → d .thickening ≤ y .thickening
+-- A rival y does not come before a design d, with these totals of candidates: it has at least its total; with the same total no
+-- smaller fraction; with the same fraction too no smaller return ratio; with that the same too no shorter thickening time.
+pub record NotBeforeBy (volume : Candidate → ℕ) (d y : Candidate) : Type 0 where
+  pub total : volume d ≤ volume y
+  pub fraction : volume d ≡ volume y → d .fraction ≤ y .fraction
+  pub ratio : volume d ≡ volume y → d .fraction ≡ y .fraction → d .«return_ratio» ≤ y .«return_ratio»
+  pub time : volume d ≡ volume y → d .fraction ≡ y .fraction → d .«return_ratio» ≡ y .«return_ratio» → d .thickening ≤ y .thickening
+
+-- the same with the totals of a plant's candidates
+abbrev pub NotBefore : Plant → Concentrations → Candidate → Candidate → Type 0
+NotBefore p x d y = NotBeforeBy (candidateTotal p x) d y
 
 -- A sheet is the least design among a set of candidates: its candidate is in the set and permitted, its figures are
 -- those that the steps define, and no permitted candidate of the set comes before it. Plant and concentrations are the

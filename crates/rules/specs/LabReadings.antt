@@ -1,13 +1,14 @@
 -- Document 01, "Lab readings": from an f32's exact value or a head count to thousandths of mg/l, and each reading's range.
 -- Assumes nothing.
 use Prim.Native.Nat.{ℕ, _*_}
-use mathlib.Core.Bool.{Bool, true, _&&_}
+use mathlib.Core.Bool.{Bool, true, false, _&&_}
 use lib.Dec.{ltb}
 use lib.Ieee.{Float, nan, inf, fin}
 use lib.Ieee.Nearest.{closest}
 use Rattle.rules.specs.Rounding.{up}
 use Rattle.rules.specs.PlantData.{within}
 use Rattle.rules.specs.declared.PrimarySettling.{PrimarySettling}
+use Rattle.rules.specs.declared.Way.{Way}
 use Rattle.rules.specs.declared.Parameter.{Parameter}
 use Rattle.rules.specs.declared.Reading.{Reading}
 
@@ -75,3 +76,8 @@ readingInRange q s k r = headsInRange r && resultInRange k (readingValue q s k r
 -- rule 4: 5 COD > 11 BOD
 unfoldable pub codRatioBroken : ℕ → ℕ → Bool
 codRatioBroken bod cod = ltb (11 * bod) (5 * cod)
+
+-- it is asked in the way by BOD alone (document 02, item 12)
+unfoldable pub ratioRefused : Way → ℕ → ℕ → Bool
+ratioRefused Way.Bod bod cod = codRatioBroken bod cod
+ratioRefused Way.Cod bod cod = false

@@ -65,12 +65,12 @@ mostAge = 20_000
 abbrev pub mostNitrogen : ℕ
 mostNitrogen = 500_000
 
--- K, g nitrate nitrogen per kg BOD, and K × C
+-- K, g nitrate nitrogen per kg BOD, and K × C or what stands for it
 abbrev pub mostCapacity : ℕ
 mostCapacity = 193
 
 abbrev pub mostRemoves : ℕ
-mostRemoves = 386_000_000
+mostRemoves = 569_000_000
 
 -- the dose of external carbon, mg/m3 as COD, and the nitrate that it removes, mg/m3
 abbrev pub mostDose : ℕ
@@ -81,10 +81,10 @@ mostRemovedByDose = 100_000
 
 -- S, g/d, and M, kg
 abbrev pub mostSludge : ℕ
-mostSludge = 700_000_000
+mostSludge = 1_500_000_000
 
 abbrev pub mostMass : ℕ
-mostMass = 14_000_000
+mostMass = 30_000_000
 
 -- B, and with it R, g/m3
 abbrev pub leastBottom : ℕ

@@ -9,9 +9,10 @@ use lib.Dec.{T}
 use Rattle.rules.specs.Rules.{Rule, allKept, verdict}
 use Rattle.rules.specs.Accepting.{valuesOf, acceptBy, accept}
 use Rattle.rules.specs.Examining.{sheetOf, permitted, answerBy, examine}
-use Rattle.rules.specs.Choosing.{grid, candidateOf, NotBefore, Chosen}
+use Rattle.rules.specs.Choosing.{grid, candidateOf, NotBeforeBy, Chosen}
 use Rattle.rules.specs.declared.Plant.{Plant}
 use Rattle.rules.specs.declared.Consent.{Consent}
+use Rattle.rules.specs.declared.Way.{Way}
 use Rattle.rules.specs.declared.Readings.{Readings}
 use Rattle.rules.specs.declared.Concentrations.{Concentrations}
 use Rattle.rules.specs.declared.Candidate.{Candidate}
@@ -20,9 +21,9 @@ use Rattle.rules.specs.declared.Refusal.{Refusal}
 use Rattle.rules.specs.declared.Acceptance.{Acceptance}
 use Rattle.rules.specs.declared.Answer.{Answer}
 
--- a plant with another sludge volume index, dose and consent
-abbrev pub alteredPlant : ℕ → ℕ → Consent → Plant → Plant
-alteredPlant index dose consent p =
+-- a plant with another sludge volume index, dose, consent and way
+abbrev pub alteredPlant : ℕ → ℕ → Consent → Way → Plant → Plant
+alteredPlant index dose consent way p =
     record {
       load = p .load;
       flow = p .flow;
@@ -44,6 +45,7 @@ alteredPlant index dose consent p =
       «primary_settling» = p .«primary_settling»;
       dose = dose;
       consent = consent;
+      way = way;
     }
 
 -- the rules for the data, the rules for a candidate, and the sheet
@@ -62,12 +64,16 @@ permittedWith s p x y = allKept (s .forCandidate p x y)
 abbrev pub examineWith : Calculation → Plant → Readings → Candidate → Answer
 examineWith s p r y = answerBy (verdict (s .forData p r ++ s .forCandidate p (valuesOf p r) y)) (s .sheet p (valuesOf p r) y)
 
+-- a candidate's total on these steps' sheet
+abbrev pub totalWith : Calculation → Plant → Concentrations → Candidate → ℕ
+totalWith s p x y = s .sheet p x y .total
+
 -- demand 3 over these steps
 pub record LeastWith (s : Calculation) (p : Plant) (x : Concentrations) (sheet : Sheet) : Type 0 where
   pub member : grid p (candidateOf sheet)
   pub allowed : T (permittedWith s p x (candidateOf sheet))
   pub figures : sheet ≡ s .sheet p x (candidateOf sheet)
-  pub rivals : (y : Candidate) → grid p y → T (permittedWith s p x y) → NotBefore p x (candidateOf sheet) y
+  pub rivals : (y : Candidate) → grid p y → T (permittedWith s p x y) → NotBeforeBy (totalWith s p x) (candidateOf sheet) y
 
 abbrev pub ChosenAcceptedWith : Calculation → Plant → Answer → Acceptance → Type 0
 ChosenAcceptedWith s p a (Acceptance.Refused n) = a ≡ Answer.Refused n

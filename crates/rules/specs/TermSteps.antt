@@ -5,10 +5,11 @@ use mathlib.Core.Bool.{Bool, cond}
 use lib.Dec.{leb}
 use Rattle.rules.specs.Rounding.{up}
 use Rattle.rules.specs.Limits.{leastFraction}
-use Rattle.rules.specs.AgeNitrate.{safetyFactor, aerobicAge, correctedAge, denitrified, capacity, covered}
+use Rattle.rules.specs.AgeNitrate.{safetyFactor, aerobicAge, correctedAge, denitrified, removes, covered}
 use Rattle.rules.specs.declared.Plant.{Plant}
 use Rattle.rules.specs.declared.Concentrations.{Concentrations}
 use Rattle.rules.specs.declared.Process.{Process}
+use Rattle.rules.specs.declared.Way.{Way}
 use Rattle.rules.specs.declared.Reactor.{Reactor}
 use Rattle.rules.specs.declared.Term.{Term}
 
@@ -28,14 +29,16 @@ nitrifies p reactor term = leb (termShare p reactor term) 1000
 unfoldable pub termFraction : Plant → Reactor → Term → ℕ
 termFraction p reactor term = min (reactor .fraction) (1000 - termShare p reactor term)
 
--- K at a fraction and a temperature: 0 at a fraction under 200
-unfoldable pub termCapacity : Process → ℕ → ℕ → ℕ → ℕ
-termCapacity process fraction temperature corrected = cond (leb leastFraction fraction) (capacity process fraction temperature corrected) 0
+-- K × C or what stands for it at a fraction and a temperature: 0 at a fraction under 200
+unfoldable pub removesFrom200 : Way → Process → Concentrations → ℕ → ℕ → ℕ → ℕ
+removesFrom200 way process x fraction temperature corrected =
+    cond (leb leastFraction fraction) (removes way process x fraction temperature corrected) 0
 
--- K × C in a term, with U of the design's t at the term's temperature
+-- the same in a term, with U of the design's t at the term's temperature
 unfoldable pub termRemoves : Plant → Concentrations → Reactor → Term → ℕ
 termRemoves p x reactor term =
-    termCapacity (p .process) (termFraction p reactor term) (term .temperature) (correctedAge (reactor .age) (term .temperature)) * x .bod
+    removesFrom200 (p .way) (p .process) x (termFraction p reactor term) (term .temperature)
+    (correctedAge (reactor .age) (term .temperature))
 
 -- D in a term, from its target
 unfoldable pub termDenitrified : Reactor → Term → ℕ

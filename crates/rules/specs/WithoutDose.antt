@@ -1,4 +1,4 @@
--- The steps that know no dose: the ones that the dose changed, and all that rests on them. Nothing here looks at the dose
+-- The steps that know no dose, in either way: the ones that the dose changed, and all that rests on them. Nothing here looks at the dose
 -- (proofs/StepsWithoutDose.antt); that a dose of 0 changes nothing is said against these (proofs/NoDose.antt). Assumes nothing.
 use Prim.Native.Nat.{ℕ, _*_}
 use mathlib.Core.Bool.{Bool}
@@ -8,7 +8,7 @@ use Rattle.rules.specs.Rules.{Rule, rule}
 use Rattle.rules.specs.PlantData.{allWithin, figuresWithoutDose}
 use Rattle.rules.specs.Consent.{termsOf, every}
 use Rattle.rules.specs.Accepting.{rulesAfterFigures}
-use Rattle.rules.specs.ReactorSteps.{reactorOf}
+use Rattle.rules.specs.ReactorSteps.{reactorDosed}
 use Rattle.rules.specs.SettlingSteps.{settlingOf}
 use Rattle.rules.specs.AerationSteps.{aerationSaving}
 use Rattle.rules.specs.TermSteps.{nitrifies, termRemoves, termDenitrified}
@@ -25,15 +25,15 @@ use Rattle.rules.specs.declared.Refusal.{Refusal}
 
 -- a plant with another dose
 unfoldable pub withDose : ℕ → Plant → Plant
-withDose dose p = alteredPlant (p .«sludge_volume_index») dose (p .consent) p
+withDose dose p = alteredPlant (p .«sludge_volume_index») dose (p .consent) (p .way) p
 
 -- 1 asks of document 01's figures alone; then the other rules
 unfoldable pub dataRulesWithoutDose : Plant → Readings → List Rule
 dataRulesWithoutDose p r = rule Refusal.PlantData (allWithin (figuresWithoutDose p)) ∷ rulesAfterFigures p r
 
--- document 01's "covered", from K × C and D: K × C ≥ 1000 × D
+-- document 01's "covered", from K × C or what stands for it and D: K × C ≥ 1000 × D
 unfoldable pub coveredByBod : ℕ → ℕ → Bool
-coveredByBod removes d = leb (1000 * d) removes
+coveredByBod own d = leb (1000 * d) own
 
 -- the same in a term of the consent
 unfoldable pub termCoveredByBod : Plant → Concentrations → Reactor → Term → Bool
@@ -42,17 +42,17 @@ termCoveredByBod p x reactor term = coveredByBod (termRemoves p x reactor term) 
 -- the candidate's rules with that cover
 unfoldable pub rulesWithoutDose : Plant → Concentrations → Candidate → List Rule
 rulesWithoutDose p x y =
-    let reactor = reactorOf p x (y .fraction) in
+    let reactor = reactorDosed 0 p x (y .fraction) in
     gridRule p y
     ∷ rule Refusal.Nitrate (coveredByBod (reactor .removes) (reactor .denitrified))
     ∷ rule Refusal.Nitrification (every (nitrifies p reactor) (termsOf (p .consent)))
     ∷ rule Refusal.TermNitrate (every (termCoveredByBod p x reactor) (termsOf (p .consent)))
     ∷ tankRules p (settlingOf p (y .«return_ratio») (y .thickening))
 
--- the sheet, with oxygen saved on the whole of D
+-- the sheet, with no sludge from a dose and with oxygen saved on the whole of D
 unfoldable pub sheetWithoutDose : Plant → Concentrations → Candidate → Sheet
 sheetWithoutDose p x y =
-    let reactor = reactorOf p x (y .fraction) in
+    let reactor = reactorDosed 0 p x (y .fraction) in
     sheetFrom p y reactor (settlingOf p (y .«return_ratio») (y .thickening)) (aerationSaving (reactor .denitrified) p x reactor)
 
 unfoldable pub stepsWithoutDose : Calculation

@@ -5,7 +5,7 @@ use mathlib.Core.Bool.{Bool, true, false}
 use Rattle.rules.specs.Accepting.{dataRules}
 use Rattle.rules.specs.ReactorSteps.{reactorOf}
 use Rattle.rules.specs.SettlingSteps.{settlingOf}
-use Rattle.rules.specs.AerationSteps.{denitrifiedByBod, oxygenTransfer, aerationBy}
+use Rattle.rules.specs.AerationSteps.{carbonOxygenIn, denitrifiedByBod, oxygenTransfer, aerationBy}
 use Rattle.rules.specs.Examining.{sheetFrom, sheetOf, candidateRules, examine}
 use Rattle.rules.specs.Choosing.{Chosen}
 use Rattle.rules.specs.OtherSteps.{Calculation, examineWith, ChosenWith}
@@ -22,7 +22,10 @@ use Rattle.rules.specs.declared.Answer.{Answer}
 -- document 01's transfer for every process
 unfoldable pub aerationWithoutPauses : Plant → Concentrations → Reactor → Aeration
 aerationWithoutPauses p x reactor =
-    aerationBy (oxygenTransfer (p .«oxygen_saturation»)) (denitrifiedByBod (reactor .denitrified) (reactor .«removed_by_dose»)) p x reactor
+    aerationBy (carbonOxygenIn (p .way) (p .flow) x) (oxygenTransfer (p .«oxygen_saturation»))
+    (denitrifiedByBod (reactor .denitrified) (reactor .«removed_by_dose»))
+    p
+    reactor
 
 unfoldable pub sheetWithoutPauses : Plant → Concentrations → Candidate → Sheet
 sheetWithoutPauses p x y =

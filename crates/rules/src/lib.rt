@@ -69,6 +69,12 @@ pub enum PrimarySettling {
     Long,
 }
 
+// What sludge and oxygen are reckoned from.
+pub enum Way {
+    Bod,
+    Cod,
+}
+
 // A day of the year.
 pub struct Date {
     pub month: u32,
@@ -131,6 +137,7 @@ pub struct Plant {
     // external carbon, mg/m3 as COD
     pub dose: u32,
     pub consent: Consent,
+    pub way: Way,
 }
 
 // What a lab reading is of.
@@ -185,7 +192,7 @@ pub struct Reactor {
     pub nitrified: u64,
     // D, nitrate to denitrify, mg/m3
     pub denitrified: u64,
-    // K × C, thousandths of the nitrate that the tank removes with the tank's BOD, mg/m3
+    // K × C, thousandths of the nitrate that the tank removes with its own carbon, mg/m3; in the way by COD what stands for it
     pub removes: u64,
     // nitrate that the dose removes, mg/m3
     pub removed_by_dose: u64,

@@ -11,6 +11,7 @@ use rules::Readings;
 use rules::Removal;
 use rules::TankFlow;
 use rules::Term;
+use rules::Way;
 use rules::Written;
 ghost use mathlib.Core.Path.{_≡_};
 ghost use Rattle.rules.specs.Consent.{noTerms};
@@ -62,6 +63,7 @@ fn plant() -> Plant
         primary_settling: PrimarySettling::None,
         dose: 0,
         consent: consent(),
+        way: Way::Bod,
     }
 }
 

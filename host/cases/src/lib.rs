@@ -2,6 +2,7 @@
 //! requests, what a call answers to them, and plants on the lines where two
 //! answers meet.
 
+pub mod cod_lines;
 pub mod collection;
 pub mod figures;
 pub mod files;

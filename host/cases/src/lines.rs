@@ -1,10 +1,12 @@
 //! Requests moved on to the lines where two answers meet.
 
+use crate::cod_lines::{dose_about_the_least, on_degradable, on_saved, with_random_way};
 use crate::figures;
 use crate::plants;
 use crate::random::Random;
 use crate::request::*;
 use crate::tanks::OnLines;
+use reference::cod::Chain;
 use reference::nitrogen::*;
 use reference::reading::{result_range, Determinand, ORDER};
 use reference::stages::Stages;
@@ -48,12 +50,14 @@ pub fn on_whole_dose(request: Request, less: u32) -> Option<Request> {
     with_dose_for(request, stages.nitrate.to_denitrify, less)
 }
 
-/// A random dose: none, about what leaves no nitrate to the BOD, or any.
+/// A random dose: none, about what leaves no nitrate to the BOD, about the least
+/// that makes sludge, or any.
 pub fn with_dose(random: &mut Random, request: Request) -> Request {
     let about = |whole: Request, more: u32| (whole.get(DOSE) + more).saturating_sub(5);
-    let dose = match random.within(0, 7) {
+    let dose = match random.within(0, 8) {
         0..=3 => 0,
         4 | 5 => on_whole_dose(request, 0).map_or(0, |whole| about(whole, random.within(0, 10))),
+        6 => dose_about_the_least(random),
         _ => random.spread(1, MOST_DOSE),
     };
     request.with(DOSE, dose)
@@ -111,7 +115,7 @@ pub fn with_random_terms(random: &mut Random, request: Request) -> Request {
     let count = random.within(0, MOST_TERMS as u32) as usize;
     let changed = request.with_terms(&terms[..count]);
     if random.one_in(8) {
-        let word = random.within(TERM_COUNT as u32, DATA_WORDS as u32 - 1);
+        let word = random.within(TERM_COUNT as u32, WAY as u32 - 1);
         let odd = [0, 3, 5, 13, 21, 30, 31, 32, 999, 50_001, 1 << 31, u32::MAX];
         changed.with(word as usize, random.pick(&odd))
     } else {
@@ -223,6 +227,24 @@ pub fn capacity_by_rounding(request: &Request) -> bool {
     other != nitrate.capacity
 }
 
+/// A plant in the COD way whose degradable COD is about 0, mostly just covered
+/// then; or whose saved oxygen is about carbon's.
+fn on_cod_line(random: &mut Random, plant: Request, past: u32) -> Option<Request> {
+    if random.one_in(3) {
+        return on_saved(plant, u64::from(past));
+    }
+    let chain = random.pick(&[Chain::Sludge, Chain::Aeration, Chain::Cover]);
+    let left = match random.within(0, 2) {
+        0 => i64::from(random.within(0, 6)) - 3,
+        _ => i64::from(random.within(3, 600)),
+    };
+    let plant = on_degradable(plant, chain, left)?;
+    match random.within(0, 3) {
+        0 => Some(plant),
+        _ => on_cover(plant, u64::from(past)),
+    }
+}
+
 /// A random plant on one of the lines, or one past it.
 pub fn random_on_line(random: &mut Random, tanks: &OnLines) -> Request {
     let mut plant = if random.one_in(2) {
@@ -234,9 +256,13 @@ pub fn random_on_line(random: &mut Random, tanks: &OnLines) -> Request {
         let (tank, flow) = tanks.any(random);
         plant = tank.put_in(plant, flow);
     }
+    let plant = with_random_way(random, plant);
     let plant = with_dose(random, plant);
     let plant = with_random_terms(random, plant);
     let past = random.within(0, 1);
+    if plant.get(WAY) == BY_COD && random.one_in(4) {
+        return on_cod_line(random, plant, past).unwrap_or(plant);
+    }
     if plant.get(TERM_COUNT) > 0 && random.one_in(2) {
         return on_some_term(random, plant, past).unwrap_or(plant);
     }

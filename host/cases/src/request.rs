@@ -42,8 +42,13 @@ pub const TERM_TEMPERATURE: usize = 4;
 pub const TERM_TARGET: usize = 5;
 pub const TERM_WORDS: usize = 6;
 
-/// Words of the data: version, plant, readings, dose and terms.
-pub const DATA_WORDS: usize = TERMS + MOST_TERMS * TERM_WORDS;
+/// The way of sludge and oxygen, after the terms.
+pub const WAY: usize = TERMS + MOST_TERMS * TERM_WORDS;
+pub const BY_BOD: u32 = 0;
+pub const BY_COD: u32 = 1;
+
+/// Words of the data: version, plant, readings, dose, terms and way.
+pub const DATA_WORDS: usize = WAY + 1;
 /// Words of a candidate, which come after the data.
 pub const CANDIDATE_WORDS: usize = 3;
 pub const FRACTION: usize = DATA_WORDS;
@@ -101,7 +106,7 @@ pub const TERM_RANGES: [(usize, u32, u32); 2] =
 pub const DAYS: [u32; 12] = [31, 29, 31, 30, 31, 30, 31, 31, 30, 31, 30, 31];
 
 /// Words that hold a kind, and the last kind of each.
-pub const KIND_WORDS: [(usize, u32); 10] = [
+pub const KIND_WORDS: [(usize, u32); 11] = [
     (PROCESS, 4),
     (PRECIPITANT, 1),
     (TANK_FLOW, 1),
@@ -112,6 +117,7 @@ pub const KIND_WORDS: [(usize, u32); 10] = [
     (SOLIDS, 2),
     (NITROGEN, 2),
     (PHOSPHORUS, 2),
+    (WAY, 1),
 ];
 
 /// Bytes of a request to examine or to explain.
@@ -126,7 +132,7 @@ pub const ASKED_DAY: usize = ASKED_MONTH + 1;
 pub const TARGET_LENGTH: usize = 4 * (ASKED_DAY + 1);
 
 /// The newest version, the only one that is answered.
-pub const NEWEST_VERSION: u32 = 3;
+pub const NEWEST_VERSION: u32 = 4;
 /// The version before it.
 pub const EARLIER_VERSION: u32 = NEWEST_VERSION - 1;
 /// A version that does not exist yet.
@@ -177,7 +183,7 @@ impl Request {
     pub fn with_terms(mut self, terms: &[TermWords]) -> Self {
         let mut all = [[0; TERM_WORDS]; MOST_TERMS];
         all[..terms.len()].copy_from_slice(terms);
-        self.0[TERMS..DATA_WORDS].copy_from_slice(all.as_flattened());
+        self.0[TERMS..WAY].copy_from_slice(all.as_flattened());
         self.with(TERM_COUNT, terms.len() as u32)
     }
 
@@ -267,7 +273,8 @@ fn plant(words: &[u32]) -> Option<Plant> {
         )?,
         primary_settling: choice(&[NoSettling, Short, Long], words[PRIMARY_SETTLING])?,
         dose: words[DOSE],
-        consent: consent(&words[TERM_COUNT..DATA_WORDS]),
+        consent: consent(&words[TERM_COUNT..WAY]),
+        way: choice(&[Way::Bod, Way::Cod], words[WAY])?,
     })
 }
 

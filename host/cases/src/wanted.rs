@@ -19,7 +19,7 @@ const WANTED: [Wanted; 83] = [
     ("grid edge", 7, &[0, 8]),
     ("off grid", 13, &[6]),
     ("wrong version", 9, &[102]),
-    ("unknown kind", 15, &[103]),
+    ("unknown kind", 18, &[103]),
     ("reading edge", 26, PASSED),
     ("reading past edge", 20, &[3]),
     ("head count edge", 8, PASSED),
@@ -160,6 +160,64 @@ const WANTED_FINER: [Wanted; 3] = [
     ("index of 50", 12, &[0]),
 ];
 
+const WANTED_COD: [Wanted; 55] = [
+    ("COD way, worked case", 10, &[0, 7]),
+    ("COD way, each process", 15, &[0]),
+    ("COD way, primary settling", 4, &[0]),
+    ("COD way, ratio broken", 8, &[0]),
+    ("BOD way, ratio broken", 5, &[4]),
+    ("COD way, 1", 4, &[1]),
+    ("COD way, 17", 3, &[17]),
+    ("COD way, 2", 5, &[2]),
+    ("COD way, 3", 7, &[3]),
+    ("COD way, 14", 5, &[14]),
+    ("COD way, 5", 2, &[5]),
+    ("COD way, 6", 2, &[6]),
+    ("COD way, 7", 3, &[7]),
+    ("COD way, 15", 1, &[15]),
+    ("COD way, 16", 1, &[16]),
+    ("COD way, 8 to 10", 2, &[8, 9, 10]),
+    ("unknown way", 6, &[103]),
+    ("unknown way of another version", 2, &[102]),
+    ("COD way, dose", 14, &[0]),
+    ("COD way, dose beside no degradable COD", 4, &[0]),
+    ("COD way, dose just covers", 9, &[0]),
+    ("COD way, dose just misses", 10, &[7]),
+    ("COD way, degradable about 0", 17, &[0]),
+    ("COD way, particulate about the COD", 4, &[0]),
+    ("COD way, no oxygen, covered", 4, &[0]),
+    ("COD way, no oxygen, missed", 4, &[7]),
+    ("COD way, no oxygen, no design", 2, &[5]),
+    ("COD way, carbon about saved", 12, &[0]),
+    ("COD way, ends", 14, &[0]),
+    ("COD way, cover met, simultaneous", 6, &[0]),
+    ("COD way, cover missed, simultaneous", 9, &[7]),
+    ("COD way, cover met, intermittent", 6, &[0]),
+    ("COD way, cover missed, intermittent", 9, &[7]),
+    ("COD way, cover met, choose", 6, &[0]),
+    ("COD way, term just covered", 12, &[0]),
+    ("COD way, term just missed", 12, &[16]),
+    ("COD way, term's fraction 200, covered", 3, &[0]),
+    ("COD way, term's fraction 200, missed", 3, &[16]),
+    ("COD way, term's fraction 199, missed", 6, &[16]),
+    ("COD way, term's fraction 199, covered", 3, &[0]),
+    ("COD way, covered below a gap", 5, &[0]),
+    ("COD way, not covered above", 5, &[7]),
+    ("COD way, choice at a gap", 5, &[0]),
+    ("COD way, sludge rounded", 14, &[0]),
+    ("COD way, oxygen rounded", 12, &[0]),
+    ("COD way, cover rounded", 12, &[7]),
+    ("COD way, term's cover rounded", 6, &[16]),
+    ("COD way moves the choice", 5, &[0]),
+    ("COD way, design by the COD alone", 5, &[0]),
+    ("COD way, last fractions covered", 2, &[0]),
+    ("COD way, no design: nitrate", 2, &[5]),
+    ("COD way, last fractions cover a term", 2, &[0]),
+    ("COD way, no design: term", 2, &[5]),
+    ("COD way, exact page", 2, &[0]),
+    ("COD way, random", 18, &[]),
+];
+
 const WANTED_PAGES: [Wanted; 5] = [
     ("exact page", 8, &[0, 1, 5, 9, 10]),
     ("page one byte short", 8, &[11]),
@@ -206,6 +264,7 @@ impl Summary {
             .chain(&WANTED_BULKING)
             .chain(&WANTED_PAUSES)
             .chain(&WANTED_FINER)
+            .chain(&WANTED_COD)
             .chain(&WANTED_PAGES);
         for (kind, least, allowed) in wanted {
             let found = self.kinds.get(kind).unwrap_or(&empty);

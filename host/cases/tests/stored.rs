@@ -1,8 +1,10 @@
 //! The stored cases: size, kinds, and that they are always the same.
 
 use cases::collection::Case;
+use cases::groups::cod_roundings;
 use cases::model::Outcome;
-use cases::{files, groups, model, plants, request, wanted};
+use cases::random::Random;
+use cases::{cod_lines, files, groups, model, plants, request, wanted};
 
 fn made() -> (Vec<Case>, Vec<Outcome>) {
     let cases = groups::all().cases;
@@ -38,7 +40,7 @@ fn every_kind_is_there_and_twice_the_same() {
 fn bytes_of_case_a() {
     let bytes = plants::case_a().examine_bytes();
     assert_eq!(bytes.len(), request::EXAMINE_LENGTH);
-    assert_eq!(bytes[..8], [3, 0, 0, 0, 0xb0, 0x04, 0, 0]);
+    assert_eq!(bytes[..8], [4, 0, 0, 0, 0xb0, 0x04, 0, 0]);
     assert_eq!(bytes[76..84], [0, 0, 0, 0, 0, 0, 0x48, 0x43]);
     let dosed = plants::case_a().with(request::DOSE, 0x0004_03a1);
     assert_eq!(dosed.examine_bytes()[116..120], [0xa1, 0x03, 0x04, 0]);
@@ -54,10 +56,10 @@ fn bytes_of_case_a() {
 
 #[test]
 fn bytes_of_terms() {
-    assert_eq!(request::CHOOSE_LENGTH, 220);
-    assert_eq!(request::EXAMINE_LENGTH, 232);
+    assert_eq!(request::CHOOSE_LENGTH, 224);
+    assert_eq!(request::EXAMINE_LENGTH, 236);
     let plain = plants::case_a().examine_bytes();
-    assert_eq!(plain[120..220], [0; 100]);
+    assert_eq!(plain[120..224], [0; 104]);
     let terms = [[11, 1, 3, 31, 8, 0xabcd], [4, 2, 10, 30, 12, 20_000]];
     let bytes = plants::case_a().with_terms(&terms).examine_bytes();
     let words: Vec<u32> = bytes[120..172]
@@ -71,7 +73,29 @@ fn bytes_of_terms() {
     assert_eq!(bytes[220..], plain[220..]);
 }
 
-/// The last of four terms, whose last word is the last of the data.
+/// The way after the terms, and the candidate after it.
+#[test]
+fn bytes_of_the_way() {
+    use reference::Way;
+    let plain = plants::case_a();
+    let terms = [[11, 1, 3, 31, 8, 30_000]; 4];
+    for (code, way) in [(0, Some(Way::Bod)), (1, Some(Way::Cod)), (2, None)] {
+        let bytes = plain.with(request::WAY, code).examine_bytes();
+        assert_eq!(bytes[..220], plain.examine_bytes()[..220]);
+        assert_eq!(bytes[220..224], [code as u8, 0, 0, 0]);
+        assert_eq!(bytes[224..], plain.examine_bytes()[224..]);
+        for request in [plain, plain.with_terms(&terms)] {
+            let decoded = request.with(request::WAY, code).decoded();
+            match (decoded, way) {
+                (Ok(data), Some(way)) => assert_eq!(data.plant.way, way),
+                (Err(fault), None) => assert_eq!(fault, 103),
+                _ => panic!("way {code}"),
+            }
+        }
+    }
+}
+
+/// The last of four terms, whose last word is the last before the way.
 #[test]
 fn terms_decoded() {
     let mut terms = [[11, 1, 3, 31, 8, 30_000]; 4];
@@ -109,6 +133,26 @@ fn terms_explained() {
     assert_eq!(figures[19..], [0; 10]);
 }
 
+/// Case A as a simultaneous plant in the COD way: what stands for K x C.
+#[test]
+fn cod_way_explained() {
+    let terms = [[11, 1, 3, 31, 11, 23_486], [11, 1, 3, 31, 10, 30_000]];
+    let request = plants::case_a()
+        .with(request::WAY, request::BY_COD)
+        .with(request::PROCESS, 1)
+        .with_terms(&terms);
+    let outcome = model::explain(&request.examine_bytes(), model::EXPLAIN_PAGE);
+    let figures: Vec<u64> = outcome
+        .written
+        .chunks_exact(8)
+        .map(|eight| u64::from_le_bytes(eight.try_into().unwrap()))
+        .collect();
+    assert_eq!(figures[..4], [26_000, 16_764, 0, 16_764]);
+    assert_eq!(figures[8], 7);
+    assert_eq!(figures[9..14], [773, 227, 12_514, 12_514, 12_514]);
+    assert_eq!(figures[14..19], [852, 148, 6_000, 0, 0]);
+}
+
 /// A winter over the new year and one day of it with a lower target.
 #[test]
 fn targets() {
@@ -141,8 +185,19 @@ fn targets() {
         assert_eq!(answer(&bytes[..111], 8), (101, Vec::new()));
     }
     let mut earlier = request(2, 2, 30);
-    earlier[0] = 2;
+    earlier[0] = 3;
     assert_eq!(answer(&earlier[..4], 0), (102, Vec::new()));
+}
+
+/// The roundings that the search turns are those of the reference.
+#[test]
+fn roundings_as_in_the_reference() {
+    let mut random = Random::new(7);
+    for _ in 0..20_000 {
+        let plant = plants::anything(&mut random);
+        let request = cod_lines::in_cod_way(&mut random, plant);
+        assert!(cod_roundings::agree(&request));
+    }
 }
 
 #[test]
@@ -155,7 +210,9 @@ fn malformed_requests_in_their_order() {
     assert_eq!(fault(&plant.examine_bytes()), Some(102));
     assert_eq!(fault(&plant.examine_bytes()[..3]), Some(101));
     let earlier = plant.with(request::VERSION, request::EARLIER_VERSION);
-    assert_eq!(fault(&earlier.choose_bytes()), Some(102));
+    for length in [220, 224, 232, 236] {
+        assert_eq!(fault(&earlier.examine_bytes()[..length]), Some(102));
+    }
     let known = plant.with(request::VERSION, request::NEWEST_VERSION);
     assert_eq!(fault(&known.choose_bytes()), Some(101));
     assert_eq!(fault(&known.examine_bytes()), Some(103));

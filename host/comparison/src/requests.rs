@@ -3,6 +3,7 @@
 use crate::compare::Operation;
 use crate::logs;
 use crate::targets;
+use cases::cod_lines::with_random_way;
 use cases::lines::{on_cover, on_dose, random_on_line, with_dose, with_random_terms};
 use cases::model::EXPLAIN_PAGE;
 use cases::odd;
@@ -27,6 +28,7 @@ pub fn sound(random: &mut Random, tanks: &OnLines) -> Request {
         3 => small(random),
         _ => return random_on_line(random, tanks),
     };
+    let plant = with_random_way(random, plant);
     let plant = with_dose(random, plant);
     with_random_terms(random, plant)
 }
@@ -40,6 +42,7 @@ pub fn with_design(random: &mut Random) -> Request {
         1 => plants::plausible(random).with_measured(SOLIDS, 0),
         _ => plants::plausible(random),
     };
+    let plant = with_random_way(random, plant);
     let plant = with_dose(random, plant);
     let roomy = plant.with(SITE_SURFACE, 100_000).with(SITE_DEPTH, 10_000);
     let line = match random.one_in(4) {

@@ -3,6 +3,7 @@
 use cases::groups;
 use cases::random::Random;
 use cases::tanks::OnLines;
+use comparison::cod;
 use comparison::compare::{agree, compare, compare_census, expected, Operation};
 use comparison::counts::{in_parts, settle, Found};
 use comparison::logs;
@@ -117,6 +118,82 @@ fn any_censuses() {
     let found = random_requests(Operation::Census, 5_000, ANY_CENSUSES);
     let not_given = [&[NO_DESIGN, OFF_GRID], &OF_CANDIDATE[..]].concat();
     settle("census", &found, &all_but(&not_given, 5));
+}
+
+/// Each line of the COD way just met and just missed; every twentieth request
+/// is also chosen for.
+#[test]
+fn cod_way_made_to_measure() {
+    let requests = cod::made_to_measure();
+    let mut found = [(); 3].map(|()| Found::default());
+    for (turn, request) in requests.iter().enumerate() {
+        let bytes = request.examine_bytes();
+        found[0].add(compare(Operation::Examine, &bytes, 512));
+        found[1].add(compare(Operation::Explain, &bytes, 512));
+        if turn % 20 == 0 {
+            found[2].add(compare(Operation::Choose, &request.choose_bytes(), 512));
+        }
+    }
+    let ratio = u32::from(reference::refusal::COD_RATIO);
+    let wanted = [
+        (SHEET, 5_000),
+        (ratio, 20),
+        (NITRATE, 800),
+        (NITRIFICATION, 1_000),
+        (TERM_NITRATE, 1_500),
+    ];
+    settle("COD way, examine", &found[0], &wanted);
+    settle("COD way, explain", &found[1], &[(SHEET, 10_000)]);
+    settle(
+        "COD way, choose",
+        &found[2],
+        &[(SHEET, 100), (NO_DESIGN, 20)],
+    );
+}
+
+/// Every length, of this version and of its neighbours.
+#[test]
+fn lengths_of_requests() {
+    let mut found = Found::default();
+    for bytes in cod::lengths() {
+        for operation in [
+            Operation::Examine,
+            Operation::Choose,
+            Operation::Explain,
+            Operation::Census,
+        ] {
+            found.add(compare(operation, &bytes, 512));
+        }
+    }
+    let wanted = [
+        (SHEET, 8),
+        (BAD_LENGTH, 2_000),
+        (BAD_VERSION, 5_000),
+        (cases::request::UNKNOWN_KIND, 4),
+    ];
+    settle("lengths", &found, &wanted);
+}
+
+/// About a third of the random requests are in the COD way, many of them above
+/// the COD ratio.
+#[test]
+fn ways_of_random_requests() {
+    let tanks = OnLines::find();
+    let mut random = Random::new(9_000);
+    let (mut by_cod, mut above) = (0, 0);
+    for turn in 0..3_000 {
+        let request = match turn % 3 {
+            0 => requests::with_design(&mut random),
+            _ => requests::sound(&mut random, &tanks),
+        };
+        if request.get(cases::request::WAY) == cases::request::BY_COD {
+            by_cod += 1;
+            let accepted = cases::lines::accepted(&request);
+            above += u32::from(accepted.is_some_and(|a| 5 * a[1] > 11 * a[0]));
+        }
+    }
+    assert!((900..=1_100).contains(&by_cod), "{by_cod} by COD");
+    assert!(above >= 150, "{above} above the ratio");
 }
 
 #[test]
@@ -250,7 +327,7 @@ fn differences_are_reported() {
     let last = outcome.written.len() - 2;
     outcome.written[last] ^= 1;
     let text = agree(Operation::Examine, &bytes, 512, &outcome).unwrap_err();
-    for part in ["03000000b0040000", "transfer 127662;", "transfer 127663;"] {
+    for part in ["04000000b0040000", "transfer 127662;", "transfer 127663;"] {
         assert!(text.contains(part), "{text}");
     }
     let refused = expected(Operation::Examine, &bytes, 0);
@@ -266,7 +343,8 @@ fn stack_as_stated() {
     let seasons = plant.with_terms(&four);
     let log = logs::log(&[(0, 0); 3_660]);
     let target = targets::request(4, &four, (2, 29));
-    for request in [plant, vertical, seasons] {
+    let by_cod = seasons.with(cases::request::WAY, cases::request::BY_COD);
+    for request in [plant, vertical, seasons, by_cod] {
         let (examine, choose) = (request.examine_bytes(), request.choose_bytes());
         for (call, bytes, stated) in [
             (library::CHOOSE, &choose, 16_000),

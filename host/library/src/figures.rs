@@ -15,7 +15,8 @@ pub const FIGURES_LENGTH: usize = 8 * (OF_CANDIDATE + OF_TERM * MOST_TERMS);
 pub struct Figures {
     /// Nitrate to be removed, mg/m3
     pub nitrate_to_remove: u64,
-    /// Nitrate that the tank's BOD removes, mg/m3
+    /// Nitrate that the tank's BOD removes, mg/m3; where the request removes
+    /// by COD, what the tank's own carbon removes, reckoned from the COD
     pub removed_by_bod: u64,
     /// Nitrate that the dose removes, mg/m3
     pub removed_by_dose: u64,
@@ -45,7 +46,7 @@ pub struct TermFigures {
     pub fraction: u64,
     /// Nitrate to be removed, mg/m3
     pub nitrate_to_remove: u64,
-    /// Nitrate that the tank's BOD removes, mg/m3
+    /// Nitrate that the tank's BOD removes, or its COD as in the design, mg/m3
     pub removed_by_bod: u64,
     /// Nitrate that the tank can remove, with what the dose removes, mg/m3
     pub nitrate_removable: u64,

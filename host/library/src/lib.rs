@@ -16,7 +16,7 @@ pub use census::{Census, CENSUS_LENGTH, COUNTED};
 pub use figures::{Figures, TermFigures, FIGURES_LENGTH};
 pub use load::{day_log, Day, Load, LEAST_DAYS, LOAD_PAGE, MOST_BOD, MOST_DAYS, MOST_FLOW};
 pub use request::{
-    Candidate, Precipitant, PrimarySettling, Process, Reading, Removal, Request, TankFlow,
+    Candidate, Precipitant, PrimarySettling, Process, Reading, Removal, Request, TankFlow, Way,
     CHOOSE_LENGTH, EXAMINE_LENGTH, EXPLAIN_LENGTH, VERSION,
 };
 pub use terms::{target_from_page, Date, Term, Terms, MOST_TERMS, TARGET_LENGTH, TARGET_PAGE};

@@ -3,16 +3,17 @@
 use crate::terms::{Terms, TERMS_WORDS};
 
 /// Version of the layout.
-pub const VERSION: u32 = 3;
+pub const VERSION: u32 = 4;
 /// Words of the version, the plant with its site, and its kinds.
 const PLANT_WORDS: usize = 19;
 /// Words of the readings, two each.
 const READING_WORDS: usize = 10;
 /// The word of the dose, which comes after the readings.
 const DOSE_WORDS: usize = 1;
-/// Words of the data, which every request starts with; the terms of the
-/// consent come last.
-const DATA_WORDS: usize = PLANT_WORDS + READING_WORDS + DOSE_WORDS + TERMS_WORDS;
+/// The word of the way, which comes after the terms of the consent.
+const WAY_WORDS: usize = 1;
+/// Words of the data, which every request starts with.
+const DATA_WORDS: usize = PLANT_WORDS + READING_WORDS + DOSE_WORDS + TERMS_WORDS + WAY_WORDS;
 /// Words of a candidate, which come after the data.
 const CANDIDATE_WORDS: usize = 3;
 /// Bytes of a request to choose.
@@ -60,6 +61,15 @@ pub enum PrimarySettling {
     None = 0,
     Short = 1,
     Long = 2,
+}
+
+/// Where carbon sludge and carbon's oxygen come from.
+#[derive(Clone, Copy, Debug, Default, PartialEq, Eq)]
+pub enum Way {
+    #[default]
+    Bod = 0,
+    /// By the appendix of A 131E
+    Cod = 1,
 }
 
 /// A lab reading. The f32 of a value in mg/l is held by its bits, so that
@@ -134,6 +144,7 @@ pub struct Request {
     pub nitrogen: Reading,
     pub phosphorus: Reading,
     pub terms: Terms,
+    pub way: Way,
 }
 
 /// A candidate of the grid, or any other three numbers.
@@ -148,16 +159,25 @@ pub struct Candidate {
 }
 
 impl Request {
+    /// Whether the nitrate that the tank's own carbon removes is reckoned from
+    /// the COD; else it is from the BOD.
+    pub fn removes_by_cod(&self) -> bool {
+        let by_oxygen = [Process::Simultaneous, Process::Intermittent];
+        self.way == Way::Cod && by_oxygen.contains(&self.process)
+    }
+
     /// The bytes of a request to choose or for a census.
     pub fn to_choose(&self) -> [u8; CHOOSE_LENGTH] {
         let mut bytes = [0; CHOOSE_LENGTH];
         let (plant, rest) = bytes.split_at_mut(4 * PLANT_WORDS);
         let (readings, rest) = rest.split_at_mut(4 * READING_WORDS);
-        let (dose, terms) = rest.split_at_mut(4 * DOSE_WORDS);
+        let (dose, rest) = rest.split_at_mut(4 * DOSE_WORDS);
+        let (terms, way) = rest.split_at_mut(4 * TERMS_WORDS);
         put(plant, &self.plant_words());
         put(readings, &self.reading_words());
         put(dose, &[self.dose]);
         put(terms, &self.terms.words());
+        put(way, &[self.way as u32]);
         bytes
     }
 

@@ -8,7 +8,7 @@ use library::sheet::{candidates, GRID, LINES};
 use library::{census, choose, day_log, examine, explain, load, target, target_from_page};
 use library::{Candidate, Census, Date, Day, Figures, Load, Process, Reading, Request, TankFlow};
 use library::{
-    Term, TermFigures, Terms, LOAD_PAGE, MOST_TERMS, TARGET_LENGTH, TARGET_PAGE, VERSION,
+    Term, TermFigures, Terms, Way, LOAD_PAGE, MOST_TERMS, TARGET_LENGTH, TARGET_PAGE, VERSION,
 };
 use library::{CENSUS_LENGTH, CHOOSE_LENGTH, COUNTED, EXAMINE_LENGTH, FIGURES_LENGTH, PAGE_LENGTH};
 
@@ -242,6 +242,130 @@ fn intermittent_blowers_pause() {
             assert_eq!(number, SHEET);
             let end = format!("\noxygen {oxygen}\ntransfer {transfer}\n");
             assert!(page[..written as usize].ends_with(end.as_bytes()), "{end}");
+        }
+    }
+}
+
+/// Case A in the COD way, with these COD and solids in mg/l.
+fn by_cod(cod: f32, solids: f32) -> Request {
+    Request {
+        way: Way::Cod,
+        cod: Reading::Measured(cod.to_bits()),
+        solids: Reading::Measured(solids.to_bits()),
+        ..case_a()
+    }
+}
+
+/// The four sheets that docs/cod-way.md works out: sludge, mass, reactor,
+/// total, oxygen and transfer; the rest is that of the BOD way.
+#[test]
+fn the_worked_sheets_of_the_cod_way() {
+    let dosed = Request {
+        dose: 50_000,
+        ..by_cod(400.0, 150.0)
+    };
+    for (request, [sludge, mass, reactor, total, oxygen, transfer]) in [
+        (
+            by_cod(400.0, 150.0),
+            [1_101_595, 12_926, 3_421, 5_481, 98_196, 126_252],
+        ),
+        (
+            by_cod(400.0, 450.0),
+            [1_855_406, 21_770, 5_761, 7_821, 82_080, 105_532],
+        ),
+        (
+            by_cod(100.0, 300.0),
+            [1_079_375, 12_665, 3_352, 5_412, 64_500, 82_929],
+        ),
+        (dosed, [1_174_582, 13_782, 3_647, 5_707, 104_237, 134_019]),
+    ] {
+        let listing = format!(
+            "fraction 300\nreturn 75\nthickening 20\nage 11733\nsludge {sludge}\nmass {mass}\n\
+             solids 3779\nreactor {reactor}\nsurface 454\ndepth 4536\nsettling 2060\n\
+             total {total}\nrecirculation 2600\noxygen {oxygen}\ntransfer {transfer}\n"
+        );
+        let mut page = [UNTOUCHED; PAGE_LENGTH];
+        let (number, written) = examine(&request.to_examine(CASE_A_CANDIDATE), &mut page);
+        assert_eq!(number, SHEET);
+        assert_eq!(&page[..written as usize], listing.as_bytes());
+    }
+}
+
+/// In the COD way a dose adds sludge from 10,001 mg/m3 on; in the BOD way none.
+#[test]
+fn a_dose_adds_sludge_in_the_cod_way() {
+    let sludge = |way: Way, dose: u32| {
+        let request = Request {
+            way,
+            dose,
+            ..case_a()
+        };
+        let mut page = [UNTOUCHED; PAGE_LENGTH];
+        let (_, written) = examine(&request.to_examine(CASE_A_CANDIDATE), &mut page);
+        let listing = String::from_utf8_lossy(&page[..written as usize]).into_owned();
+        let mut lines = listing.lines();
+        let line = lines.find_map(|line| line.strip_prefix("sludge "));
+        line.unwrap().parse::<u64>().unwrap()
+    };
+    assert_eq!(sludge(Way::Cod, 0), 1_101_595);
+    assert_eq!(sludge(Way::Cod, 10_000), 1_101_595);
+    assert!(sludge(Way::Cod, 10_001) > 1_101_595);
+    assert_eq!(sludge(Way::Bod, 500_000), 1_000_000);
+}
+
+/// Refusal 4 is due in the BOD way alone; 3 and 14 are due in both.
+#[test]
+fn the_cod_ratio_is_held_to_in_the_bod_way_alone() {
+    let too_much = Request {
+        way: Way::Bod,
+        ..by_cod(440.1, 150.0)
+    };
+    let no_cod = by_cod(4_400.1, 150.0);
+    let mut no_term = by_cod(4_400.0, 150.0);
+    no_term.terms.push(winter(3, 10_000));
+    for (request, number) in [
+        (too_much, COD_RATIO),
+        (by_cod(440.1, 150.0), SHEET),
+        (by_cod(4_400.0, 150.0), SHEET),
+        (no_cod, READING_RANGE),
+        (no_term, TERMS),
+    ] {
+        let mut page = [UNTOUCHED; PAGE_LENGTH];
+        assert_eq!(choose(&request.to_choose(), &mut page).0, number);
+        assert_eq!(census(&request.to_choose(), &mut page).0, number);
+        let bytes = request.to_examine(CASE_A_CANDIDATE);
+        assert_eq!(examine(&bytes, &mut page).0, number);
+        assert_eq!(explain(&bytes, &mut page).0, number);
+    }
+}
+
+/// What the tank's own carbon removes of Case A at 300, by process and way, in
+/// the design and in a term at its temperature; in a colder one a fraction
+/// under 200 is left, which removes nothing.
+#[test]
+fn nitrate_is_removed_by_the_oxygen_of_the_cod() {
+    for (process, by_bod, by_cod) in [
+        (Process::PreAnoxic, 26_000, 26_000),
+        (Process::Simultaneous, 17_000, 16_764),
+        (Process::Intermittent, 17_000, 16_764),
+    ] {
+        for (way, removed) in [(Way::Bod, by_bod), (Way::Cod, by_cod)] {
+            let request = Request {
+                process,
+                way,
+                dose: 500,
+                ..with_terms(&[winter(12, 10_000), winter(10, 10_000)])
+            };
+            let mut page = [UNTOUCHED; FIGURES_LENGTH];
+            explain(&request.to_examine(CASE_A_CANDIDATE), &mut page);
+            let figures = Figures::from_page(&page);
+            assert_eq!(figures.removed_by_bod, removed);
+            assert_eq!(figures.removed_by_dose, 100);
+            assert_eq!(figures.nitrate_removable, removed + 100);
+            assert_eq!(figures.terms[0].removed_by_bod, removed);
+            assert_eq!(figures.terms[0].nitrate_removable, removed + 100);
+            assert_eq!(figures.terms[1].removed_by_bod, 0);
+            assert_eq!(figures.terms[1].nitrate_removable, 100);
         }
     }
 }
@@ -529,9 +653,12 @@ fn malformed_requests_have_their_codes() {
         let data = &other[..CHOOSE_LENGTH];
         assert_eq!(choose(data, &mut page), (BAD_VERSION, 0));
         assert_eq!(census(data, &mut page), (BAD_VERSION, 0));
-        // a version of another length, as version 2 was
-        let shorter = &other[..CHOOSE_LENGTH - 100];
+        // a version of another length, as version 3 was
+        let shorter = &other[..CHOOSE_LENGTH - 4];
         assert_eq!(choose(shorter, &mut page), (BAD_VERSION, 0));
+        let shorter = &other[..EXAMINE_LENGTH - 4];
+        assert_eq!(examine(shorter, &mut page), (BAD_VERSION, 0));
+        assert_eq!(explain(shorter, &mut page), (BAD_VERSION, 0));
         assert_eq!(examine(&other[..4], &mut page), (BAD_VERSION, 0));
         assert_eq!(examine(&other[..3], &mut page), (BAD_LENGTH, 0));
     }
@@ -551,6 +678,15 @@ fn malformed_requests_have_their_codes() {
     assert_eq!(examine(&unknown_process, &mut page), (BAD_KIND, 0));
     let data = &unknown_process[..CHOOSE_LENGTH];
     assert_eq!(census(data, &mut page), (BAD_KIND, 0));
+    for (place, value) in [(220, 2), (223, 1)] {
+        let mut unknown_way = good;
+        unknown_way[place] = value;
+        assert_eq!(examine(&unknown_way, &mut page), (BAD_KIND, 0));
+        assert_eq!(explain(&unknown_way, &mut page), (BAD_KIND, 0));
+        let data = &unknown_way[..CHOOSE_LENGTH];
+        assert_eq!(choose(data, &mut page), (BAD_KIND, 0));
+        assert_eq!(census(data, &mut page), (BAD_KIND, 0));
+    }
     assert_eq!(page, [UNTOUCHED; PAGE_LENGTH]);
 }
 

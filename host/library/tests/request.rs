@@ -5,7 +5,7 @@ mod common;
 use common::{case_a, CASE_A_CANDIDATE};
 use library::{
     Candidate, Date, Precipitant, PrimarySettling, Process, Reading, Removal, Request, TankFlow,
-    Term, Terms, CHOOSE_LENGTH, EXAMINE_LENGTH, EXPLAIN_LENGTH, TARGET_LENGTH,
+    Term, Terms, Way, CHOOSE_LENGTH, EXAMINE_LENGTH, EXPLAIN_LENGTH, TARGET_LENGTH,
 };
 
 fn word(bytes: &[u8], place: usize) -> u32 {
@@ -25,6 +25,10 @@ fn lengths_are_those_of_the_header_for_c() {
         let line = format!("#define PEWGULL_{call}_LENGTH {length}\n");
         assert!(header.contains(&line), "{line}");
     }
+    assert_eq!(
+        (CHOOSE_LENGTH, EXAMINE_LENGTH, TARGET_LENGTH),
+        (224, 236, 112)
+    );
     assert_eq!(library::FIGURES_LENGTH, 232);
     assert_eq!(library::CENSUS_LENGTH, 256);
 }
@@ -32,7 +36,7 @@ fn lengths_are_those_of_the_header_for_c() {
 #[test]
 fn bytes_of_case_a() {
     let bytes = case_a().to_examine(CASE_A_CANDIDATE);
-    assert_eq!(bytes[0..4], [3, 0, 0, 0]);
+    assert_eq!(bytes[0..4], [4, 0, 0, 0]);
     assert_eq!(bytes[4..8], [0xb0, 0x04, 0, 0], "load 1,200");
     assert_eq!(bytes[8..12], [0x88, 0x13, 0, 0], "flow 5,000");
     assert_eq!(bytes[52..56], [0x88, 0x13, 0, 0], "site depth 5,000");
@@ -40,7 +44,8 @@ fn bytes_of_case_a() {
     assert_eq!(bytes[76..84], [0, 0, 0, 0, 0, 0, 0x48, 0x43], "BOD 200.0");
     assert_eq!(word(&bytes, 28), 0x4100_0000, "phosphorus 8.0");
     assert_eq!(word(&bytes, 29), 0, "no dose");
-    assert_eq!(bytes[120..CHOOSE_LENGTH], [0; 100], "no terms");
+    assert_eq!(bytes[120..220], [0; 100], "no terms");
+    assert_eq!(bytes[220..CHOOSE_LENGTH], [0; 4], "by the BOD");
     assert_eq!(
         bytes[CHOOSE_LENGTH..],
         [0x2c, 1, 0, 0, 75, 0, 0, 0, 20, 0, 0, 0]
@@ -81,7 +86,7 @@ fn terms(first: u32) -> Terms {
 #[test]
 fn bytes_of_a_request_for_a_target() {
     let bytes = terms(1).to_target(Date { month: 26, day: 27 });
-    assert_eq!(word(&bytes, 0), 3);
+    assert_eq!(word(&bytes, 0), 4);
     for place in 1..28 {
         assert_eq!(word(&bytes, place), place as u32, "word {place}");
     }
@@ -136,7 +141,8 @@ fn each_field_has_its_word() {
         return_ratio: own as u32 + 1,
         thickening: own as u32 + 2,
     });
-    let terms = 30..own;
+    assert_eq!(own, 56);
+    let terms = 30..55;
     for place in (1..=13)
         .chain([20, 22, 24, 26, 28, 29])
         .chain(terms)
@@ -154,6 +160,7 @@ fn kinds_have_their_codes() {
         tank: TankFlow::Vertical,
         removal: Removal::Hopper,
         primary_settling: PrimarySettling::Long,
+        way: Way::Cod,
         bod: Reading::Measured(0x7fc0_0001),
         cod: Reading::Below(0x8000_0000),
         solids: Reading::Heads(u32::MAX),
@@ -165,4 +172,45 @@ fn kinds_have_their_codes() {
         words,
         [4, 1, 1, 2, 2, 0, 0x7fc0_0001, 1, 0x8000_0000, 2, u32::MAX]
     );
+    assert_eq!(word(&bytes, 55), 1);
+}
+
+/// The way is word 55, between the terms and the candidate; no other word of
+/// the request knows it.
+#[test]
+fn the_way_has_its_word() {
+    let by_bod = case_a().to_examine(CASE_A_CANDIDATE);
+    let by_cod = Request {
+        way: Way::Cod,
+        ..case_a()
+    };
+    let mut expected = by_bod;
+    assert_eq!(expected[220..224], [0; 4]);
+    expected[220] = 1;
+    assert_eq!(by_cod.to_examine(CASE_A_CANDIDATE), expected);
+    assert_eq!(by_cod.to_choose()[..], expected[..CHOOSE_LENGTH]);
+    assert_eq!(word(&expected, 56), CASE_A_CANDIDATE.fraction);
+}
+
+#[test]
+fn nitrate_by_cod() {
+    let by_cod = |way: Way| {
+        [
+            Process::PreAnoxic,
+            Process::Simultaneous,
+            Process::Intermittent,
+            Process::StepFeedTwo,
+            Process::StepFeedThree,
+        ]
+        .map(|process| {
+            let request = Request {
+                process,
+                way,
+                ..case_a()
+            };
+            request.removes_by_cod()
+        })
+    };
+    assert_eq!(by_cod(Way::Bod), [false; 5]);
+    assert_eq!(by_cod(Way::Cod), [false, true, true, false, false]);
 }

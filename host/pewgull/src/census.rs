@@ -1,12 +1,13 @@
 //! The census of the grid: its lines, and what to look at first where no
 //! candidate is permitted.
 
-use crate::explanation::{figures, least_dose, least_dose_of_terms};
+use crate::explanation::{figures, least_dose, least_dose_of_terms, readings};
+use crate::keys::{MOST_DOSE, TERM_TARGET};
 use crate::season;
 use crate::values::{filled, listed};
 use library::number::{self, DEPTH, NITRATE, NITRIFICATION, SHEET, SOLIDS, SURFACE, TERM_NITRATE};
 use library::sheet::GRID;
-use library::{Candidate, Census, Request, TankFlow, CENSUS_LENGTH, COUNTED};
+use library::{Candidate, Census, Request, CENSUS_LENGTH, COUNTED};
 
 /// The census of a plant, or the number of its refusal.
 pub fn counts(request: &Request) -> Result<Census, u32> {
@@ -59,15 +60,22 @@ fn earlier(census: &Census, rule: u32) -> Vec<u32> {
     before.filter(|other| census.count(*other) > 0).collect()
 }
 
-/// A candidate of the largest fraction: what the tank can remove, in a term
-/// too, and the sludge age never fall with the fraction.
-fn largest_fraction(tank: TankFlow) -> Candidate {
+/// A candidate of each fraction, the largest first. In the COD way what the
+/// tank can remove may fall with the fraction, so none speaks for the others.
+fn of_each_fraction(request: &Request) -> impl Iterator<Item = Candidate> {
     let [fraction, return_ratio, thickening] = &GRID;
-    Candidate {
-        fraction: fraction.most(tank),
+    let fractions = fraction.least..=fraction.most(request.tank);
+    fractions.rev().map(|fraction| Candidate {
+        fraction,
         return_ratio: return_ratio.least,
         thickening: thickening.least,
-    }
+    })
+}
+
+/// The least of the doses that a fraction takes, where any takes one.
+fn least_of(request: &Request, dose: fn(&Request, Candidate) -> Option<u32>) -> Option<u32> {
+    let doses = of_each_fraction(request).filter_map(|candidate| dose(request, candidate));
+    doses.min()
 }
 
 fn at_least(dose: u32) -> String {
@@ -77,25 +85,28 @@ fn at_least(dose: u32) -> String {
 /// What moves the candidates that nitrate stops, where it stops all; a dose
 /// only where one covers some of them.
 fn nitrate_remedy(request: &Request) -> String {
-    let candidate = largest_fraction(request.tank);
-    let dose = least_dose_of_terms(request, candidate).or_else(|| least_dose(request, candidate));
+    let dose = least_of(request, least_dose_of_terms).or_else(|| least_of(request, least_dose));
     let dose = dose.map(|dose| format!(" {},", at_least(dose)));
     format!(
-        "a looser nitrate-target,{} another process, the readings of nitrogen and bod",
-        dose.unwrap_or_default()
+        "a looser nitrate-target,{} another process, the readings of {}",
+        dose.unwrap_or_default(),
+        readings(request)
     )
 }
 
-/// What moves the candidates of the largest fraction that a term stops.
+/// What moves the candidates that a term stops: those of the largest fraction
+/// among them.
 fn term_remedy(rule: u32, request: &Request) -> String {
-    let candidate = largest_fraction(request.tank);
-    let Ok(figures) = figures(request, candidate) else {
+    let stopped = of_each_fraction(request)
+        .filter_map(|candidate| figures(request, candidate).ok())
+        .find(|figures| figures.verdict == u64::from(rule));
+    let Some(figures) = stopped else {
         return "the lines 'term'".to_string();
     };
     match rule {
         NITRIFICATION => season::nitrification_keys(request, &figures),
         _ => {
-            let dose = least_dose_of_terms(request, candidate);
+            let dose = least_of(request, least_dose_of_terms);
             season::nitrate_keys(request, &figures, dose.map(at_least))
         }
     }
@@ -114,22 +125,36 @@ fn remedy(rule: u32, request: &Request) -> String {
     .to_string()
 }
 
+/// What alone cannot help where the fractions that keep nitrate are stopped by
+/// a rule of the terms: told where the library finds none permitted with the
+/// loosest target and, for nitrification, the largest dose.
+fn cannot_help(request: &Request, rule: u32) -> &'static str {
+    let mut looser = *request;
+    looser.nitrate_target = TERM_TARGET.most;
+    if rule == NITRIFICATION {
+        looser.dose = MOST_DOSE;
+    }
+    let helps = counts(&looser).is_ok_and(|census| census.permitted() > 0);
+    match rule {
+        _ if helps => "",
+        NITRIFICATION => {
+            " (a looser nitrate-target or a dose alone cannot help: every fraction is stopped)"
+        }
+        _ => " (a looser nitrate-target alone cannot help: every fraction is stopped)",
+    }
+}
+
 /// Which rule to look at first, and why that one.
-fn look_first(census: &Census, rule: u32) -> String {
+fn look_first(request: &Request, census: &Census, rule: u32) -> String {
     let mut text = format!("Look first at {}, which stops the most", label(rule));
     let others = earlier(census, rule);
     let stopped: u64 = others.iter().map(|other| census.count(*other)).sum();
     if stopped > census.count(rule) || (is_of_fraction(rule) && stopped > 0) {
         let others: Vec<String> = others.into_iter().map(label).collect();
         text += &format!(" of those that keep {}", listed(&others));
-        text += match rule {
-            NITRIFICATION => {
-                " (a looser nitrate-target or a dose alone cannot help: every fraction is stopped)"
-            }
-            TERM_NITRATE => {
-                " (a looser nitrate-target alone cannot help: every fraction is stopped)"
-            }
-            _ => " (a looser target or a dose alone cannot help: every tank is stopped)",
+        text += match is_of_fraction(rule) {
+            true => cannot_help(request, rule),
+            false => " (a looser target or a dose alone cannot help: every tank is stopped)",
         };
     }
     text + ":"
@@ -140,7 +165,7 @@ pub fn advice(request: &Request, census: &Census) -> String {
     let lines: String = lines(census).map(|line| format!("\n  {line}")).collect();
     let rule = first(census);
     lines
-        + &filled(&look_first(census, rule))
+        + &filled(&look_first(request, census, rule))
         + &filled(&format!("{}.", remedy(rule, request)))
         + "\n  'pewgull explain FILE F R H' shows how far a candidate is from its limits"
 }
@@ -182,7 +207,7 @@ mod tests {
     fn why_that_rule() {
         let told = |counts| {
             let census = stopped(counts);
-            look_first(&census, first(&census))
+            look_first(&Request::default(), &census, first(&census))
         };
         for (counts, words) in [
             ([9, 0, 0, 0, 0, 0], "at nitrate, which stops the most:"),

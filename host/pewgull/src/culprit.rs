@@ -6,7 +6,7 @@ use crate::consent;
 use crate::keys::{Field, Key, Range, HEADS, KEYS, MOST_BULKING, MOST_INDEX};
 use crate::plant_file::PlantFile;
 use library::number::{BULKING, COD_RATIO, NO_NUMBER, PLANT_DATA, READING_RANGE, TERMS};
-use library::{Reading, Request};
+use library::{Reading, Request, Way};
 
 /// What a reading comes to.
 struct Outcome<'a> {
@@ -41,7 +41,10 @@ pub fn lines(number: u32, file: &PlantFile) -> Vec<String> {
             Vec::new()
         };
     }
-    let ratio = cod_ratio(&results[0], &results[1]);
+    let ratio = match request.way {
+        Way::Bod => cod_ratio(&results[0], &results[1]),
+        Way::Cod => Vec::new(),
+    };
     match number {
         COD_RATIO => ratio,
         TERMS if ratio.is_empty() => consent::faults(file),
@@ -168,6 +171,7 @@ pub fn short(bits: u32) -> String {
     }
 }
 
+/// The limit of the BOD way.
 fn cod_ratio(bod: &Outcome, cod: &Outcome) -> Vec<String> {
     if 5.0 * cod.thousandths <= 11.0 * bod.thousandths {
         return Vec::new();

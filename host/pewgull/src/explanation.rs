@@ -12,7 +12,7 @@ pub const LEAST_SOLIDS: u64 = 1_000;
 pub const MOST_SLUDGE_VOLUME: u64 = 600;
 /// Largest aerobic share of a term, thousandths of the sludge age.
 pub const MOST_AEROBIC_SHARE: u64 = 1_000;
-/// Least fraction of a term at which the tank's BOD removes nitrate,
+/// Least fraction of a term at which the tank's own carbon removes nitrate,
 /// thousandths.
 pub const LEAST_FRACTION: u64 = 200;
 /// Parts of the dose, as COD, that remove one part of nitrate.
@@ -24,6 +24,23 @@ pub fn figures(request: &Request, candidate: Candidate) -> Result<Figures, u32> 
     match explain(&request.to_examine(candidate), &mut page) {
         (SHEET, _) => Ok(Figures::from_page(&page)),
         (number, _) => Err(number),
+    }
+}
+
+/// What the nitrate that the tank's own carbon removes is reckoned from.
+pub fn carbon(request: &Request) -> &'static str {
+    match request.removes_by_cod() {
+        true => "COD",
+        false => "BOD",
+    }
+}
+
+/// The readings that the cover asks of; the BOD keeps nitrogen in the sludge,
+/// whatever removes the nitrate.
+pub fn readings(request: &Request) -> &'static str {
+    match request.removes_by_cod() {
+        true => "nitrogen, bod, cod and solids",
+        false => "nitrogen and bod",
     }
 }
 
@@ -75,20 +92,42 @@ pub fn least_target(request: &Request, candidate: Candidate, place: usize) -> Op
     (then.nitrate_to_remove <= then.nitrate_removable).then_some(least)
 }
 
-/// The least larger fraction with which no term loses its nitrification, as
-/// the library finds it.
-pub fn least_fraction(request: &Request, candidate: Candidate) -> Option<u32> {
+/// The least larger fraction with figures of this kind, as the library finds
+/// it.
+fn larger(
+    request: &Request,
+    candidate: Candidate,
+    wanted: impl Fn(&Figures) -> bool,
+) -> Option<u32> {
     let most = GRID[0].most(request.tank);
     (candidate.fraction + 1..=most).find(|&fraction| {
         let larger = Candidate {
             fraction,
             ..candidate
         };
-        figures(request, larger).is_ok_and(|figures| {
-            let kept = |term: &TermFigures| term.aerobic_share <= MOST_AEROBIC_SHARE;
-            terms(request, &figures).iter().all(kept)
-        })
+        figures(request, larger).is_ok_and(|figures| wanted(&figures))
     })
+}
+
+/// The least larger fraction with which no term loses its nitrification.
+pub fn least_fraction(request: &Request, candidate: Candidate) -> Option<u32> {
+    larger(request, candidate, |figures| {
+        let kept = |term: &TermFigures| term.aerobic_share <= MOST_AEROBIC_SHARE;
+        terms(request, figures).iter().all(kept)
+    })
+}
+
+/// Whether some larger fraction removes more nitrate, of that which is taken
+/// from the figures. In the COD way the next one may remove less.
+pub fn larger_removes_more(
+    request: &Request,
+    candidate: Candidate,
+    removed: impl Fn(&Figures) -> u64,
+) -> bool {
+    let Ok(now) = figures(request, candidate) else {
+        return false;
+    };
+    larger(request, candidate, |then| removed(then) > removed(&now)).is_some()
 }
 
 enum Side {
@@ -106,6 +145,8 @@ struct Limit {
 /// One figure, and its limit where it has one of its own.
 pub struct Line {
     label: String,
+    /// The label in the text, where that is another than the key of JSON
+    in_text: Option<String>,
     figure: u64,
     unit: &'static str,
     limit: Option<Limit>,
@@ -115,10 +156,20 @@ pub struct Line {
 fn line(label: &str, figure: u64, unit: &'static str) -> Line {
     Line {
         label: label.to_string(),
+        in_text: None,
         figure,
         unit,
         limit: None,
     }
+}
+
+/// The nitrate that the tank's own carbon removes. The key of JSON is always
+/// `by-bod`; the text says what it is reckoned from.
+fn by_carbon(start: &str, request: &Request, figure: u64) -> Line {
+    let carbon = carbon(request).to_lowercase();
+    let in_text = Some(format!("{start}-by-{carbon}"));
+    let line = line(&format!("{start}-by-bod"), figure, "mg/m3");
+    Line { in_text, ..line }
 }
 
 /// The eight lines of the design, the two nitrate columns first; the right one
@@ -126,7 +177,7 @@ fn line(label: &str, figure: u64, unit: &'static str) -> Line {
 pub fn lines(request: &Request, candidate: Candidate, figures: &Figures) -> Vec<Line> {
     let mut lines = Vec::from(design(request, figures));
     for (place, term) in terms(request, figures).iter().enumerate() {
-        lines.extend(in_term(place + 1, candidate, term));
+        lines.extend(in_term(place + 1, request, candidate, term));
     }
     lines
 }
@@ -148,7 +199,7 @@ fn design(request: &Request, figures: &Figures) -> [Line; 8] {
     let site_depth = u64::from(request.site_depth);
     [
         line("nitrate-to-remove", remove, "mg/m3").held(AtMost, removable, NITRATE),
-        line("nitrate-removed-by-bod", by_bod, "mg/m3"),
+        by_carbon("nitrate-removed", request, by_bod),
         line("nitrate-removed-by-dose", by_dose, "mg/m3"),
         line("nitrate-removable", removable, "mg/m3").held(AtLeast, remove, NITRATE),
         line("solids", solids, "g/m3").held(AtLeast, LEAST_SOLIDS, SOLIDS),
@@ -159,7 +210,12 @@ fn design(request: &Request, figures: &Figures) -> [Line; 8] {
 }
 
 /// The lines of a term: its fraction is at most the candidate's.
-fn in_term(number: usize, candidate: Candidate, term: &TermFigures) -> [Line; 5] {
+fn in_term(
+    number: usize,
+    request: &Request,
+    candidate: Candidate,
+    term: &TermFigures,
+) -> [Line; 5] {
     let TermFigures {
         aerobic_share: share,
         fraction,
@@ -175,7 +231,7 @@ fn in_term(number: usize, candidate: Candidate, term: &TermFigures) -> [Line; 5]
         of("aerobic-share", share, "thousandths").held(AtMost, MOST_AEROBIC_SHARE, NITRIFICATION),
         of("fraction", fraction, "thousandths").held(AtMost, whole, NITRIFICATION),
         of("to-remove", remove, "mg/m3").held(AtMost, removable, TERM_NITRATE),
-        of("removed-by-bod", by_bod, "mg/m3"),
+        by_carbon(&format!("term-{number}-removed"), request, by_bod),
         of("removable", removable, "mg/m3").held(AtLeast, remove, TERM_NITRATE),
     ]
 }
@@ -223,7 +279,8 @@ impl Line {
     /// Label, figure, limit, unit in so many columns, and whether the limit is
     /// kept.
     fn text(&self, columns: usize) -> String {
-        let (label, figure, unit) = (&self.label, self.figure, self.unit);
+        let label = self.in_text.as_ref().unwrap_or(&self.label);
+        let (figure, unit) = (self.figure, self.unit);
         let (side, value, verdict) = match &self.limit {
             Some(limit) => (
                 limit.words(),

@@ -2,7 +2,8 @@
 
 use crate::arguments::COMMANDS;
 use crate::census;
-use crate::keys::{Field, HEADS, KEYS, TERM_TARGET, TERM_TEMPERATURE, TERM_WORDS};
+use crate::keys::{Field, HEADS, KEYS, MOST_DOSE_WITHOUT_SLUDGE};
+use crate::keys::{TERM_TARGET, TERM_TEMPERATURE, TERM_WORDS};
 use library::number;
 use library::sheet::{GRID, LINES};
 use library::{COUNTED, KIT, MOST_TERMS, VERSION};
@@ -103,10 +104,22 @@ fn keys() -> String {
         "May be left out, with the value that then counts: {}.\n\
          A reading is 'measured X', 'below X' (half of X counts) or 'heads N', N in\n\
          {}; X in mg/l, or bits: and the eight hex digits of an f32. Its range is\n\
-         that of the concentration that comes out.\n{}",
+         that of the concentration that comes out.\n{}{}",
         optional(),
         HEADS.digits(),
-        term()
+        term(),
+        way()
+    )
+}
+
+/// What the COD way changes.
+fn way() -> String {
+    format!(
+        "'way cod' is for industrial works: carbon sludge and carbon's oxygen come from\n\
+         the COD, 4 is never due, and a dose above {MOST_DOSE_WITHOUT_SLUDGE} mg/m3 adds sludge. In the\n\
+         simultaneous and the intermittent process the nitrate that the tank's own carbon\n\
+         removes is reckoned from the COD too: explain has it as nitrate-removed-by-cod,\n\
+         with --json under its key nitrate-removed-by-bod.\n"
     )
 }
 

@@ -1,7 +1,7 @@
 //! The keys of a plant file, in the order of the request's words.
 
 use crate::values;
-use library::{Precipitant, PrimarySettling, Process, Reading, Removal, Request, TankFlow};
+use library::{Precipitant, PrimarySettling, Process, Reading, Removal, Request, TankFlow, Way};
 
 /// A range of whole numbers and what they count.
 #[derive(Clone, Copy, Debug, PartialEq, Eq)]
@@ -116,6 +116,7 @@ const SETTLINGS: [PrimarySettling; 3] = [
     PrimarySettling::Short,
     PrimarySettling::Long,
 ];
+const WAYS: [Way; 2] = [Way::Bod, Way::Cod];
 
 const PROCESS_WORDS: &[&str] = &[
     "pre-anoxic",
@@ -136,6 +137,8 @@ const NITRATE: (u32, u32, &str) = (1_000, 50_000, "mg/m3");
 const PEAK: (u32, u32, &str) = (100, 300, "hundredths");
 /// Largest dose of external carbon, mg/m3 as COD.
 pub const MOST_DOSE: u32 = 500_000;
+/// Largest dose that adds no sludge in the COD way, mg/m3 as COD.
+pub const MOST_DOSE_WITHOUT_SLUDGE: u32 = 10_000;
 const DOSE: (u32, u32, &str) = (0, MOST_DOSE, "mg/m3 as COD");
 
 /// Range of a term's lowest temperature.
@@ -154,7 +157,7 @@ pub const TERM_TARGET: Range = Range {
 pub const TERM_WORDS: &str = "MM-DD MM-DD TEMPERATURE TARGET";
 
 #[rustfmt::skip]
-pub const KEYS: [Key; 25] = [
+pub const KEYS: [Key; 26] = [
     whole("load", "raw BOD5 load", (1, 100_000, "kg/d"), |r| &mut r.load),
     whole("flow", "daily flow", (1, 200_000, "m3/d"), |r| &mut r.flow),
     whole("wet-weather-flow", "wet weather flow", (1, 50_000, "m3/h"), |r| &mut r.wet_weather_flow),
@@ -180,6 +183,7 @@ pub const KEYS: [Key; 25] = [
     reading("phosphorus", "phosphorus", (0, 100), |r| &mut r.phosphorus),
     whole("dose", "dose of external carbon", DOSE, |r| &mut r.dose).optional("0"),
     required("term", "term of the consent", Field::Term).repeated(),
+    word("way", "way of sludge and oxygen", &["bod", "cod"], |r, i| r.way = WAYS[i]).optional("bod"),
 ];
 
 impl Key {
@@ -326,6 +330,7 @@ mod tests {
         assert_eq!(similar("flwo"), Some("flow"));
         assert_eq!(similar("wet_weather_flow"), Some("wet-weather-flow"));
         assert_eq!(similar("nitrate-taget"), Some("nitrate-target"));
+        assert_eq!(similar("Way"), Some("way"));
         for word in ["", "x", "xyz", "temperature", "load=1200"] {
             assert_eq!(similar(word), None, "{word}");
         }

@@ -3,13 +3,13 @@
 use crate::census;
 use crate::culprit;
 use crate::explanation::{self, LEAST_SOLIDS, MOST_SLUDGE_VOLUME};
-use crate::keys::{MOST_DOSE, MOST_INDEX};
+use crate::keys::{MOST_DOSE, MOST_DOSE_WITHOUT_SLUDGE, MOST_INDEX};
 use crate::plant_file::PlantFile;
 use crate::season;
 use crate::values::filled;
 use library::number::{self, *};
 use library::sheet::{candidates, GRID};
-use library::{Candidate, Figures, Request, TankFlow};
+use library::{Candidate, Figures, Request, TankFlow, Way};
 
 /// The message of a refusal.
 pub fn words(number: u32, file: &PlantFile, candidate: Option<Candidate>) -> String {
@@ -37,8 +37,15 @@ pub fn words(number: u32, file: &PlantFile, candidate: Option<Candidate>) -> Str
     for line in culprit::lines(number, file) {
         message += &format!("\n  {line}");
     }
+    if number == COD_RATIO {
+        message += COD_WAY;
+    }
     message
 }
+
+/// What to do at refusal 4.
+const COD_WAY: &str = "\n  Check both readings. Industrial works with so much COD take 'way cod':\
+    \n  sludge and oxygen come from the COD then, and this limit is not held to";
 
 fn flow_name(tank: TankFlow) -> &'static str {
     match tank {
@@ -108,26 +115,30 @@ fn moves(way: Move, tank: TankFlow, candidate: Candidate) -> String {
     }
 }
 
+/// A larger fraction, where it helps.
+fn larger_fraction(helps: bool) -> Move {
+    match helps {
+        true => Move::Larger(&["F"]),
+        false => Move::None,
+    }
+}
+
 /// Refusals 7, 15, 16 and 8 to 10: the figure and its limit, keys to look at,
 /// and moves.
 fn broken_limit(number: u32, request: &Request, candidate: Candidate, figures: &Figures) -> String {
     let both = &["R", "H"];
     let (text, keys, way) = match number {
         NITRATE => {
-            let (text, keys) = nitrate(request, candidate, figures);
-            (text, keys, Move::Larger(&["F"]))
+            let (text, keys, helps) = nitrate(request, candidate, figures);
+            (text, keys, larger_fraction(helps))
         }
         NITRIFICATION => {
             let (text, keys, helps) = season::nitrification(request, candidate, figures);
-            let way = match helps {
-                true => Move::Larger(&["F"]),
-                false => Move::None,
-            };
-            (text, keys, way)
+            (text, keys, larger_fraction(helps))
         }
         TERM_NITRATE => {
-            let (text, keys) = season::nitrate(request, candidate, figures);
-            (text, keys, Move::Larger(&["F"]))
+            let (text, keys, helps) = season::nitrate(request, candidate, figures);
+            (text, keys, larger_fraction(helps))
         }
         SOLIDS if figures.solids < LEAST_SOLIDS => (
             few_solids(figures),
@@ -156,45 +167,60 @@ fn broken_limit(number: u32, request: &Request, candidate: Candidate, figures: &
 }
 
 /// The two nitrate columns, with the parts of the right one.
-pub fn columns(to_remove: u64, by_bod: u64, by_dose: u64, removable: u64) -> String {
+pub fn columns(carbon: &str, to_remove: u64, parts: [u64; 2], removable: u64) -> String {
+    let [by_carbon, by_dose] = parts;
     format!(
         "\n  \
          to be removed             {to_remove:>8} mg/m3\n  \
-         removed by the tank's BOD {by_bod:>8} mg/m3\n  \
+         removed by the tank's {carbon} {by_carbon:>8} mg/m3\n  \
          removed by the dose       {by_dose:>8} mg/m3\n  \
          the tank can remove       {removable:>8} mg/m3"
     )
 }
 
-/// The least dose that covers something, or that none does.
-pub fn least_dose(dose: Option<u32>, what: &str) -> String {
-    match dose {
-        Some(dose) => format!("\n  The least dose that covers {what}: {dose} mg/m3 as COD."),
-        None => format!("\n  No dose up to {MOST_DOSE} mg/m3 as COD covers {what}."),
+/// What a dose does beside covering nitrate, where it does more.
+fn added_sludge(way: Way, dose: u32) -> String {
+    match way {
+        Way::Cod if dose > MOST_DOSE_WITHOUT_SLUDGE => {
+            format!("; above {MOST_DOSE_WITHOUT_SLUDGE} it adds sludge")
+        }
+        _ => String::new(),
     }
 }
 
-/// Refusal 7: the columns, the least dose that covers the left one, and what
-/// to look at.
-fn nitrate(request: &Request, candidate: Candidate, figures: &Figures) -> (String, String) {
+/// The least dose that covers something, or that none does.
+pub fn least_dose(way: Way, dose: Option<u32>, what: &str) -> String {
+    filled(&match dose {
+        Some(dose) => format!(
+            "The least dose that covers {what}: {dose} mg/m3 as COD{}.",
+            added_sludge(way, dose)
+        ),
+        None => format!("No dose up to {MOST_DOSE} mg/m3 as COD covers {what}."),
+    })
+}
+
+/// Refusal 7: the columns, the least dose that covers the left one, what to
+/// look at, and whether a larger fraction helps.
+fn nitrate(request: &Request, candidate: Candidate, figures: &Figures) -> (String, String, bool) {
     let dose = explanation::least_dose(request, candidate);
     let columns = columns(
+        explanation::carbon(request),
         figures.nitrate_to_remove,
-        figures.removed_by_bod,
-        figures.removed_by_dose,
+        [figures.removed_by_bod, figures.removed_by_dose],
         figures.nitrate_removable,
     );
     let mut text = format!("the tank cannot remove enough nitrate.{columns}");
-    text += &least_dose(dose, "it");
+    text += &least_dose(request.way, dose, "it");
     let of_terms = explanation::least_dose_of_terms(request, candidate);
     if of_terms.is_some() && of_terms != dose {
-        text += &least_dose(of_terms, "the terms too");
+        text += &least_dose(request.way, of_terms, "the terms too");
     }
-    let keys = match dose {
-        Some(_) => "nitrate-target, dose, nitrogen and bod, design-temperature",
-        None => "nitrate-target, nitrogen and bod, design-temperature",
-    };
-    (text, keys.to_string())
+    let dose = if dose.is_some() { "dose, " } else { "" };
+    let readings = explanation::readings(request);
+    let keys = format!("nitrate-target, {dose}{readings}, design-temperature");
+    let helps =
+        explanation::larger_removes_more(request, candidate, |figures| figures.nitrate_removable);
+    (text, keys, helps)
 }
 
 fn few_solids(figures: &Figures) -> String {

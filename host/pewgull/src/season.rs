@@ -75,27 +75,35 @@ pub fn nitrification(
 pub fn nitrate_keys(request: &Request, figures: &Figures, dose: Option<String>) -> String {
     let short = list(&breaking(request, figures, is_short));
     let dose = dose.map(|dose| format!(" {dose},")).unwrap_or_default();
+    let readings = explanation::readings(request);
     let colder = colder_design(request);
-    format!("a looser target of {short},{dose} nitrogen and bod{colder}")
+    format!("a looser target of {short},{dose} {readings}{colder}")
 }
 
 /// Refusal 16: each term that is short, its columns, the lowest target that it
-/// covers; the least dose that covers all of them, and what to look at.
-pub fn nitrate(request: &Request, candidate: Candidate, figures: &Figures) -> (String, String) {
+/// covers; the least dose that covers all of them, what to look at, and whether
+/// a larger fraction helps.
+pub fn nitrate(
+    request: &Request,
+    candidate: Candidate,
+    figures: &Figures,
+) -> (String, String, bool) {
     let mut text = "the tank cannot remove enough nitrate in a term.".to_string();
-    for place in breaking(request, figures, is_short) {
+    let carbon = explanation::carbon(request);
+    let short = breaking(request, figures, is_short);
+    for &place in &short {
         let term = &figures.terms[place];
         let title = title(place, &request.terms.entries[place]);
         text += &format!("\n  {title}, fraction {}:", term.fraction);
         text += &columns(
+            carbon,
             term.nitrate_to_remove,
-            term.removed_by_bod,
-            figures.removed_by_dose,
+            [term.removed_by_bod, figures.removed_by_dose],
             term.nitrate_removable,
         );
         if term.fraction < LEAST_FRACTION {
             text += &format!(
-                "\n  At a fraction under {LEAST_FRACTION} the tank's BOD removes nothing."
+                "\n  At a fraction under {LEAST_FRACTION} the tank's {carbon} removes nothing."
             );
         }
         if let Some(target) = explanation::least_target(request, candidate, place) {
@@ -103,7 +111,11 @@ pub fn nitrate(request: &Request, candidate: Candidate, figures: &Figures) -> (S
         }
     }
     let dose = explanation::least_dose_of_terms(request, candidate);
-    text += &least_dose(dose, "every term");
+    text += &least_dose(request.way, dose, "every term");
     let keys = nitrate_keys(request, figures, dose.map(|_| "dose".to_string()));
-    (text, keys)
+    let helps = explanation::larger_removes_more(request, candidate, |figures| {
+        let removed = |place: &usize| figures.terms[*place].nitrate_removable;
+        short.iter().map(removed).sum()
+    });
+    (text, keys, helps)
 }

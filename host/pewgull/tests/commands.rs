@@ -99,7 +99,7 @@ const REFUSALS: [Refused; 17] = [
     (3, "bod", "bod heads 0", "300", &["reading range", "bod heads 0: expected 1..2000000"]),
     (3, "cod", "cod heads 830", "300", &["cod heads 830 comes to 19.920 mg/l: expected 20..4400 mg/l"]),
     (3, "solids", "solids measured 1e38", "300", &["solids measured 1e38 comes to 1.000e38 mg/l: expected 0..2000 mg/l"]),
-    (4, "cod", "cod measured 440.1", "300", &["COD ratio", "cod 440.100 mg/l, bod 200.000 mg/l", "2.2 times bod"]),
+    (4, "cod", "cod measured 440.1", "300", &["COD ratio", "cod 440.100 mg/l, bod 200.000 mg/l", "2.2 times bod", "take 'way cod':"]),
     (6, "load", "load 1200", "501", &["off grid", "F 501: expected 200..500 thousandths"]),
     (7, "load", "load 1200", "299", &["nitrate", "least dose that covers it: 1000 mg/m3 as COD.", "a larger F"]),
     (7, "nitrogen", "nitrogen measured 150", "500", &["covers it: 500000 mg/m3 as COD.", "Look at nitrate-target, dose, "]),
@@ -186,6 +186,159 @@ fn explain_prints_what_the_dose_removes() {
     ];
     assert_eq!((ran.status, lines), (0, expected.to_vec()));
     assert!(ran.out.ends_with("\nverdict 0\n"), "{}", ran.out);
+}
+
+/// The library refuses with 4 in the BOD way, and with the way that the message
+/// names it does not.
+#[test]
+fn the_way_of_refusal_4_is_told() {
+    let text = with("cod", "cod measured 4400");
+    let candidate = ["300", "75", "20"];
+    for command in ["choose", "census", "examine", "explain"] {
+        let numbers: &[&str] = match command {
+            "examine" | "explain" => &candidate,
+            _ => &[],
+        };
+        let run = |name: &str, text: &str| {
+            let path = file(name, text);
+            pewgull(&[&[command, path.as_str()], numbers].concat())
+        };
+        for bod in [text.clone(), format!("{text}way bod\n")] {
+            let ran = run("ratio-bod.plant", &bod);
+            assert_eq!((ran.status, ran.out.as_str()), (1, "refused 4\n"));
+            let told = "more than eleven times the BOD\
+                \n  cod 4400.000 mg/l, bod 200.000 mg/l: cod may be at most 2.2 times bod\
+                \n  Check both readings. Industrial works with so much COD take 'way cod':\
+                \n  sludge and oxygen come from the COD then, and this limit is not held to\n";
+            assert!(ran.err.ends_with(told), "{}", ran.err);
+            assert!(ran.err.lines().skip(1).all(|told| told.len() <= 80));
+        }
+        let ran = run("ratio-cod.plant", &format!("{text}way cod\n"));
+        assert_eq!((ran.status, ran.err.as_str()), (0, ""));
+    }
+}
+
+/// Case A in the COD way, with another process and more lines.
+fn by_cod(name: &str, process: &str, lines: &str) -> String {
+    let text = with("process", &format!("process {process}"));
+    file(name, format!("{text}way cod\n{lines}"))
+}
+
+/// What the tank's own carbon removes is named by what it is reckoned from.
+#[test]
+fn explain_names_the_carbon() {
+    for (process, removed, carbon) in [
+        ("pre-anoxic", 26_000, "bod"),
+        ("step-feed-two", 26_000, "bod"),
+        ("step-feed-three", 26_000, "bod"),
+        ("simultaneous", 16_764, "cod"),
+        ("intermittent", 16_764, "cod"),
+    ] {
+        let term = "term 05-01 10-31 12 10000\n";
+        let path = by_cod("carbon.plant", process, term);
+        let ran = pewgull(&["explain", &path, "300", "75", "20"]);
+        for start in ["nitrate-removed", "term-1-removed"] {
+            let label = format!("{start}-by-{carbon}");
+            let line = format!("\n{label:<23} {removed:>8}                    mg/m3\n");
+            assert!(ran.out.contains(&line), "no '{line}' in {}", ran.out);
+        }
+    }
+    let bod = file("carbon-bod.plant", with("process", "process simultaneous"));
+    let ran = pewgull(&["explain", &bod, "300", "75", "20"]);
+    let line = "\nnitrate-removed-by-bod     17000                    mg/m3\n";
+    assert!(ran.out.contains(line), "{}", ran.out);
+}
+
+#[test]
+fn refusal_7_in_the_cod_way() {
+    let path = by_cod("seven-cod.plant", "simultaneous", "dose 500\n");
+    let ran = pewgull(&["examine", &path, "300", "75", "20"]);
+    let told = ": refused 7 (nitrate): the tank cannot remove enough nitrate.\
+        \n  to be removed                26000 mg/m3\
+        \n  removed by the tank's COD    16764 mg/m3\
+        \n  removed by the dose            100 mg/m3\
+        \n  the tank can remove          16864 mg/m3\
+        \n  The least dose that covers it: 46180 mg/m3 as COD; above 10000 it adds sludge.\
+        \n  Look at nitrate-target, dose, nitrogen, bod, cod and solids,\
+        \n  design-temperature, a larger F\n";
+    assert_eq!((ran.status, ran.out.as_str()), (1, "refused 7\n"));
+    assert!(ran.err.ends_with(told), "{}", ran.err);
+    for (dose, status) in [(46_180, 0), (46_179, 1)] {
+        let path = by_cod("dosed-cod.plant", "simultaneous", &format!("dose {dose}\n"));
+        let ran = pewgull(&["examine", &path, "300", "75", "20"]);
+        assert_eq!(ran.status, status);
+    }
+    // a dose of 1,000 adds none, and in the BOD way none adds any
+    let path = by_cod("little.plant", "pre-anoxic", "");
+    let ran = pewgull(&["examine", &path, "299", "75", "20"]);
+    assert!(
+        ran.err.contains("covers it: 1000 mg/m3 as COD.\n"),
+        "{}",
+        ran.err
+    );
+    assert!(ran.err.contains("dose, nitrogen and bod, "), "{}", ran.err);
+    let path = file("much-bod.plant", with("nitrogen", "nitrogen measured 150"));
+    let ran = pewgull(&["examine", &path, "500", "75", "20"]);
+    assert!(!ran.err.contains("sludge"), "{}", ran.err);
+}
+
+/// Case A, simultaneous, with solids that leave little of so little COD: the
+/// fraction 499 removes 56 mg/m3, 500 removes 55.
+const FALLING: &str = "cod measured 100\nsolids measured 265.67\nprocess simultaneous\nway cod\n";
+
+fn falling(name: &str, lines: &str) -> String {
+    let own = ["cod ", "solids ", "process "];
+    let rest = CASE_A
+        .lines()
+        .filter(|line| !own.iter().any(|key| line.starts_with(key)))
+        .fold(String::new(), |text, line| text + line + "\n");
+    file(name, format!("{rest}{FALLING}{lines}"))
+}
+
+/// In the COD way a larger fraction may remove less: it is then not advised,
+/// and the least dose that refusal 5 tells is that of the best fraction.
+#[test]
+fn the_largest_fraction_need_not_remove_the_most() {
+    let path = falling("falling.plant", "");
+    for (fraction, removed, larger) in [("498", 55, true), ("499", 56, false), ("500", 55, false)] {
+        let ran = pewgull(&["examine", &path, fraction, "75", "20"]);
+        let column = format!("tank's COD {removed:>8} mg/m3");
+        assert!(ran.err.contains(&column), "{}", ran.err);
+        assert_eq!(ran.err.contains("a larger F"), larger, "{}", ran.err);
+    }
+    let ran = pewgull(&["choose", &path]);
+    assert_eq!(ran.out, "refused 5\n");
+    let told = "a looser nitrate-target, a dose of at least 129720 mg/m3 as COD, another\
+        \n  process, the readings of nitrogen, bod, cod and solids.\n";
+    assert!(ran.err.contains(told), "{}", ran.err);
+    for (dose, permitted) in [(129_720, 276), (129_719, 0)] {
+        let path = falling("falling-dosed.plant", &format!("dose {dose}\n"));
+        let census = pewgull(&["census", &path]).out;
+        assert!(
+            census.starts_with(&format!("permitted {permitted}\n")),
+            "{census}"
+        );
+    }
+}
+
+/// In the COD way a dose adds sludge, so that the plant is larger for it.
+#[test]
+fn a_dose_may_enlarge_the_plant() {
+    let total = |path: &str| -> u32 {
+        let listing = pewgull(&["choose", path]).out;
+        let mut lines = listing.lines();
+        let total = lines.find_map(|line| line.strip_prefix("total "));
+        total.unwrap().parse().unwrap()
+    };
+    let cod = |dose: u32| {
+        total(&by_cod(
+            "larger.plant",
+            "pre-anoxic",
+            &format!("dose {dose}\n"),
+        ))
+    };
+    assert!(cod(500_000) > cod(200_000));
+    assert_eq!(total(&dosed(500_000)), total(&dosed(200_000)));
 }
 
 /// Nothing is advised that the grid has no room for.

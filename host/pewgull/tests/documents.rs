@@ -9,7 +9,8 @@ use library::{TankFlow, COUNTED, LEAST_DAYS, MOST_BOD, MOST_DAYS, MOST_FLOW, MOS
 use pewgull::arguments::COMMANDS;
 use pewgull::census::label;
 use pewgull::keys::{
-    Field, HEADS, KEYS, MOST_BULKING, MOST_INDEX, TERM_TARGET, TERM_TEMPERATURE, TERM_WORDS,
+    Field, HEADS, KEYS, MOST_BULKING, MOST_DOSE_WITHOUT_SLUDGE, MOST_INDEX, TERM_TARGET,
+    TERM_TEMPERATURE, TERM_WORDS,
 };
 use std::fs;
 
@@ -234,6 +235,32 @@ fn bulking_sludge() {
 fn dose() {
     shows("choose examples/short-of-bod.plant");
     shows("choose examples/short-of-bod-with-methanol.plant");
+}
+
+/// The works of the COD way, and what the pages say of that way.
+#[test]
+fn way() {
+    shows("choose examples/industrial-cod.plant");
+    let readme = plain(&document("README.md"));
+    let header = plain(&document("include/pewgull.h"));
+    let help = plain(&pewgull(&["help"]).out);
+    let dose = MOST_DOSE_WITHOUT_SLUDGE;
+    for document in [&header, &help] {
+        let part = format!("a dose above {dose} mg/m3 adds sludge");
+        has(document, "the header or help", &part);
+        has(document, "the header or help", "4 is never due");
+        has(document, "the header or help", "reckoned from the COD");
+    }
+    let dose = format!("{},{:03}", dose / 1000, dose % 1000);
+    let part = format!("A dose above {dose} mg/m³ adds sludge");
+    has(&readme, "README.md", &part);
+    for document in [&readme, &help] {
+        has(document, "README.md or help", "nitrate-removed-by-cod");
+    }
+    let version = format!("A request is of version {};", library::VERSION);
+    has(&readme, "README.md", &version);
+    let code = format!("is answered with {}.", number::BAD_VERSION);
+    has(&readme, "README.md", &code);
 }
 
 /// The ranges of a day log, how its load serves for a plant, and the example.

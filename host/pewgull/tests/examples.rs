@@ -3,13 +3,13 @@
 
 mod common;
 
-use common::{example, pewgull, ran, repository, CASE_A_LISTING};
+use common::{example, file, pewgull, ran, repository, CASE_A_LISTING};
 use std::fs;
 use std::path::Path;
 use std::process::Command;
 
 /// Each file, its answer's first lines, and its exit status.
-const ANSWERS: [(&str, &str, i32); 12] = [
+const ANSWERS: [(&str, &str, i32); 14] = [
     ("bulking-sludge.plant", "refused 17\n", 1),
     (
         "case-a.plant",
@@ -29,6 +29,16 @@ const ANSWERS: [(&str, &str, i32); 12] = [
     (
         "food-works-step-feed-two.plant",
         "fraction 200\nreturn 75\nthickening 25\n",
+        0,
+    ),
+    (
+        "industrial-cod-intermittent.plant",
+        "fraction 312\nreturn 75\nthickening 25\n",
+        0,
+    ),
+    (
+        "industrial-cod.plant",
+        "fraction 370\nreturn 75\nthickening 25\n",
         0,
     ),
     (
@@ -133,6 +143,23 @@ fn short_of_bod() {
         census.starts_with("permitted 0\nnitrate 83076\n"),
         "{census}"
     );
+}
+
+/// The industrial works are refused with 4 without their last line; they differ
+/// in the process alone.
+#[test]
+fn industrial_works() {
+    let [works, intermittent] =
+        ["industrial-cod.plant", "industrial-cod-intermittent.plant"].map(example);
+    let other = data(&works).replace("process pre-anoxic", "process intermittent");
+    assert_eq!(data(&intermittent), other);
+    for path in [works, intermittent] {
+        let text = data(&path);
+        let by_bod = text.strip_suffix("way cod\n").unwrap();
+        let ran = pewgull(&["choose", &file("industrial-bod.plant", by_bod)]);
+        assert_eq!(ran.out, "refused 4\n");
+        assert!(ran.err.contains("take 'way cod':"), "{}", ran.err);
+    }
 }
 
 /// Summed anew from the file's tenths; Case A's load is its mean, rounded up.

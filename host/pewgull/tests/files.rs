@@ -106,6 +106,41 @@ fn a_key_with_a_default() {
     }
 }
 
+/// Left out, the key `way` is bod; cod gives another sheet.
+#[test]
+fn the_two_ways() {
+    assert!(!CASE_A.contains("way"));
+    accepted("way-left-out.plant", CASE_A);
+    accepted("way-bod.plant", format!("{CASE_A}way bod\n"));
+    let ran = examine(&file("way-cod.plant", format!("way\tcod # COD\n{CASE_A}")));
+    assert_eq!((ran.status, ran.err.as_str()), (0, ""));
+    assert!(ran.out.contains("\nsludge 1101595\n"), "{}", ran.out);
+    let ran = examine(&file("neither.plant", ""));
+    assert!(!ran.err.contains(" way"), "{}", ran.err);
+    let expected = "expected 'way' and one of bod, cod";
+    for (place, (line, wrong)) in [
+        ("way COD", "'COD' is not known here"),
+        ("way 1", "'1' is not known here"),
+        ("way", "the value is missing"),
+        ("way cod bod", "'bod' is one word too many"),
+    ]
+    .iter()
+    .enumerate()
+    {
+        let text = format!("{CASE_A}{line}\n");
+        refused(&format!("bad-way-{place}.plant"), text, 24, wrong, expected);
+    }
+    let wrong = "'ways' is no key";
+    let text = format!("{CASE_A}ways cod\n");
+    refused(
+        "ways.plant",
+        text,
+        24,
+        wrong,
+        "expected 'way', or another key",
+    );
+}
+
 /// Left out, there is no term; otherwise the lines count in their order. A
 /// term at the design's temperature and target leaves Case A's sheet.
 #[test]
@@ -160,6 +195,15 @@ fn double_key() {
     let wrong = "key 'dose' was given in line 24 already";
     refused(
         "double-dose.plant",
+        twice,
+        25,
+        wrong,
+        "expected each key once",
+    );
+    let twice = format!("way bod\n{CASE_A}way cod\n");
+    let wrong = "key 'way' was given in line 1 already";
+    refused(
+        "double-way.plant",
         twice,
         25,
         wrong,

@@ -98,6 +98,38 @@ fn figures_and_limits() {
     assert!(listing(kept.out.trim_end()).ends_with("\nverdict 0\nword sheet\n"));
 }
 
+/// The key of what the tank's own carbon removes stays in the COD way.
+#[test]
+fn figures_of_the_cod_way() {
+    let text = CASE_A.replace("pre-anoxic", "simultaneous") + "way cod\nterm 1-1 2-1 12 10000\n";
+    let path = file("json-cod.plant", text);
+    let ran = pewgull(&["explain", "--json", &path, "300", "75", "20"]);
+    let members = listing(ran.out.trim_end());
+    for member in [
+        "\nnitrate-removed-by-bod 16764\n",
+        "\nterm-1-removed-by-bod 16764\n",
+    ] {
+        assert!(members.contains(member), "{members}");
+    }
+    assert!(!members.contains("-by-cod"), "{members}");
+}
+
+/// Refusal 4 says what to do, and the way that it names gets a sheet.
+#[test]
+fn the_cod_ratio() {
+    let text = CASE_A.replace("cod measured 400", "cod measured 900");
+    let path = file("json-ratio.plant", &text);
+    let ran = pewgull(&["choose", "--json", &path]);
+    let members = listing(ran.out.trim_end());
+    let start = format!("file {path}\nstatus refused\nnumber 4\nword COD ratio\nmessage ");
+    assert_eq!(ran.status, 1);
+    assert!(members.starts_with(&start), "{members}");
+    assert!(members.contains("take 'way cod':"), "{members}");
+    let path = file("json-ratio-cod.plant", text + "way cod\n");
+    let ran = pewgull(&["choose", "--json", &path]);
+    assert!(ran.out.contains("\"status\": \"sheet\""), "{}", ran.out);
+}
+
 #[test]
 fn a_census() {
     let path = example("case-a.plant");

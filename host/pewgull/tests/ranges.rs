@@ -5,9 +5,10 @@ mod common;
 
 use common::CASE_A;
 use library::number::{BULKING, COD_RATIO, NO_NUMBER, PLANT_DATA, READING_RANGE, SHEET, TERMS};
-use library::{explain, target, Candidate, Date, Reading, Request, Term, Terms};
-use library::{FIGURES_LENGTH, MOST_TERMS, TARGET_PAGE};
-use pewgull::keys::{Field, Range, HEADS, KEYS, MOST_BULKING, TERM_TARGET, TERM_TEMPERATURE};
+use library::{examine, explain, target, Candidate, Date, Reading, Request, Term, Terms, Way};
+use library::{FIGURES_LENGTH, MOST_TERMS, PAGE_LENGTH, TARGET_PAGE};
+use pewgull::keys::{Field, Range, HEADS, KEYS, MOST_BULKING, MOST_DOSE_WITHOUT_SLUDGE};
+use pewgull::keys::{TERM_TARGET, TERM_TEMPERATURE};
 use pewgull::plant_file::{self, PlantFile};
 use pewgull::{consent, culprit};
 
@@ -15,14 +16,15 @@ fn case_a() -> Request {
     plant_file::parse(CASE_A.as_bytes()).unwrap().request
 }
 
+const CANDIDATE: Candidate = Candidate {
+    fraction: 300,
+    return_ratio: 75,
+    thickening: 20,
+};
+
 /// The number that the data get, whatever the candidate's rules say.
 fn number(request: &Request) -> u32 {
-    let candidate = Candidate {
-        fraction: 300,
-        return_ratio: 75,
-        thickening: 20,
-    };
-    explain(&request.to_examine(candidate), &mut [0; FIGURES_LENGTH]).0
+    explain(&request.to_examine(CANDIDATE), &mut [0; FIGURES_LENGTH]).0
 }
 
 fn with_whole(at: fn(&mut Request) -> &mut u32, value: u32) -> Request {
@@ -72,6 +74,27 @@ fn bulking_ends_where_the_library_ends_it() {
     };
     assert_eq!(number(&both), PLANT_DATA);
     assert_eq!(culprit::lines(PLANT_DATA, &file(both)).len(), 2);
+}
+
+/// The dose adds sludge where the tool says so: in the COD way, above its limit.
+#[test]
+fn a_dose_adds_sludge_above_its_limit() {
+    let sludge = |way: Way, dose: u32| {
+        let request = Request {
+            way,
+            dose,
+            ..case_a()
+        };
+        let mut page = [0; PAGE_LENGTH];
+        let (_, written) = examine(&request.to_examine(CANDIDATE), &mut page);
+        let listing = String::from_utf8_lossy(&page[..written as usize]).into_owned();
+        let line = listing.lines().find(|line| line.starts_with("sludge "));
+        line.unwrap().to_string()
+    };
+    let most = MOST_DOSE_WITHOUT_SLUDGE;
+    assert_eq!(sludge(Way::Cod, most), sludge(Way::Cod, 0));
+    assert_ne!(sludge(Way::Cod, most + 1), sludge(Way::Cod, 0));
+    assert_eq!(sludge(Way::Bod, most + 1), sludge(Way::Bod, 0));
 }
 
 #[test]
@@ -222,6 +245,7 @@ fn odd_request(random: &mut Random) -> Request {
         *at(&mut request) = odd_reading(random);
     }
     request.terms = odd_terms(random);
+    request.way = random.pick(&[Way::Bod, Way::Cod]);
     request
 }
 
@@ -280,9 +304,15 @@ fn culprits_are_found_where_the_library_refuses() {
         BULKING,
     ];
     let mut counts = [0; 7];
+    let mut far_by_cod = 0;
     for _ in 0..50_000 {
         let request = odd_request(&mut random);
         let due = number(&request);
+        let by_bod = Request {
+            way: Way::Bod,
+            ..request
+        };
+        far_by_cod += u32::from(due != COD_RATIO && number(&by_bod) == COD_RATIO);
         for asked in known {
             let found = !culprit::lines(asked, &file(request)).is_empty();
             assert_eq!(
@@ -294,6 +324,7 @@ fn culprits_are_found_where_the_library_refuses() {
         counts[known.iter().position(|asked| *asked == due).unwrap_or(6)] += 1;
     }
     assert!(counts.iter().all(|count| *count > 500), "{counts:?}");
+    assert!(far_by_cod > 500, "{far_by_cod}");
 }
 
 /// The same of terms and a date alone.

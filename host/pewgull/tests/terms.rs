@@ -235,6 +235,79 @@ fn nitrate_of_a_term_is_told() {
     assert_eq!(pewgull(&["examine", &path, "300", "75", "20"]).status, 0);
 }
 
+/// In the COD way a simultaneous plant's terms are told by the COD.
+#[test]
+fn nitrate_of_a_term_in_the_cod_way() {
+    let text = with("process", "process simultaneous")
+        .replace("nitrate-target 10000", "nitrate-target 20000");
+    let terms = "term 11-01 03-31 10 30000\nterm 04-01 10-31 11 22000\n";
+    let plant = |name: &str, terms: &str| file(name, format!("{text}way cod\n{terms}"));
+    let said = refused(16, &plant("short-cod.plant", terms), "300");
+    for part in [
+        "\n  At a fraction under 200 the tank's COD removes nothing.\n",
+        "\n  The lowest target that it covers: 36000 mg/m3.\n",
+        "fraction 227:\n  to be removed                14000 mg/m3\n  removed by the tank's COD ",
+        "terms 1 and 2, dose, nitrogen, bod, cod and solids,\n  a lower design-temperature, a larger F\n",
+    ] {
+        assert!(said.contains(part), "no '{part}' in {said}");
+    }
+    assert!(!said.contains("tank's BOD"), "{said}");
+    let told = |start: &str| -> u32 {
+        let (_, rest) = said.rsplit_once(start).unwrap();
+        rest.split(' ').next().unwrap().parse().unwrap()
+    };
+    // with the lowest targets, or with the least dose, it is permitted; with
+    // one less it is not
+    let target = told("The lowest target that it covers: ");
+    let dose = told("The least dose that covers every term: ");
+    let targets = |second: u32| {
+        let terms = terms
+            .replace("30000", "36000")
+            .replace("22000", &second.to_string());
+        plant("looser-cod.plant", &terms)
+    };
+    let dosed = |dose: u32| plant("dosed-cod.plant", &format!("{terms}dose {dose}\n"));
+    let status = |path: &str| pewgull(&["examine", path, "300", "75", "20"]).status;
+    assert_eq!(
+        (status(&targets(target)), status(&targets(target - 1))),
+        (0, 1)
+    );
+    assert_eq!((status(&dosed(dose)), status(&dosed(dose - 1))), (0, 1));
+}
+
+/// A plant of the COD way, of whose fractions 494 alone keeps the nitrate and
+/// those from 497 on alone keep the nitrification of the term: a looser target
+/// helps, and is not said not to.
+#[test]
+fn what_helps_is_not_denied_in_the_cod_way() {
+    let text = [
+        ("load", "load 1501"),
+        ("design-temperature", "design-temperature 20"),
+        ("process", "process simultaneous"),
+        ("cod", "cod measured 100"),
+        (
+            "solids",
+            "solids measured 267.218\nterm 11-01 03-31 13 50000\nway cod",
+        ),
+    ]
+    .into_iter()
+    .fold(CASE_A.to_string(), |text, (key, line)| {
+        replaced(&text, key, line)
+    });
+    let plant = |target: u32| {
+        let line = format!("nitrate-target {target}");
+        file("helped.plant", replaced(&text, "nitrate-target", &line))
+    };
+    let ran = pewgull(&["choose", &plant(35_994)]);
+    let told = "\n  permitted 0\n  nitrate 82800\n  nitrification 276\n  term-nitrate 0\n  \
+        solids 0\n  surface 0\n  depth 0\
+        \n  Look first at nitrification, which stops the most of those that keep nitrate:\
+        \n  the temperature of term 1, a lower design-temperature.\n";
+    assert_eq!((ran.status, ran.out.as_str()), (1, "refused 5\n"));
+    assert!(ran.err.contains(told), "{}", ran.err);
+    assert_eq!(pewgull(&["choose", &plant(35_995)]).status, 0);
+}
+
 /// Where no dose and no target of the range covers a term, none is told.
 #[test]
 fn no_remedy_past_its_range() {

@@ -1,6 +1,6 @@
 //! Oxygen demand and recirculation.
 
-use crate::plant::Process;
+use crate::plant::{Process, Way};
 use crate::rounding::{down, up};
 
 /// Specific oxygen uptake for aeration, g/kg, rounded up.
@@ -23,18 +23,26 @@ pub fn saved_oxygen(daily_flow: u64, left_to_bod: u64) -> u64 {
     down(29 * daily_flow * left_to_bod, 10_000)
 }
 
-/// Hourly oxygen, g/h: the larger of the carbon peak and the nitrogen peak.
+/// Oxygen for carbon removal less the saved oxygen, g/d.
 ///
-/// In a covered candidate the saved oxygen is below 542 g per kg BOD and
-/// the carbon demand at least 560, so the difference is not negative.
+/// In a candidate covered by its BOD the saved oxygen is below 542 g per kg and
+/// the carbon demand at least 560, so the difference is not negative. From the
+/// COD it can be, and counts as 0.
+pub fn less_saved(way: Way, carbon: u64, saved: u64) -> u64 {
+    match way {
+        Way::Bod => carbon - saved,
+        Way::Cod => carbon.saturating_sub(saved),
+    }
+}
+
+/// Hourly oxygen, g/h: the larger of the carbon peak and the nitrogen peak;
+/// `net` is the oxygen for carbon less the saved oxygen.
 pub fn hourly_oxygen(
-    carbon: u64,
-    saved: u64,
+    net: u64,
     nitrification: u64,
     carbon_peak_factor: u64,
     nitrogen_peak_factor: u64,
 ) -> u64 {
-    let net = carbon - saved;
     let carbon_peak = up(carbon_peak_factor * net + 100 * nitrification, 2400);
     let nitrogen_peak = up(100 * net + nitrogen_peak_factor * nitrification, 2400);
     carbon_peak.max(nitrogen_peak)

@@ -2,7 +2,8 @@
 
 use crate::aeration::*;
 use crate::age::{decay, weighted_sludge_age};
-use crate::plant::{Plant, TankFlow};
+use crate::cod::{self, Chain};
+use crate::plant::{Plant, TankFlow, Way};
 use crate::reading::{accept, Reading};
 use crate::refusal;
 use crate::settling::*;
@@ -54,7 +55,7 @@ fn hold_terms(
 /// What depends on the fraction alone, or refusal 7, 15 or 16.
 fn biology(plant: &Plant, accepted: &[u64; 5], fraction: u64) -> Result<(Nitrate, Sludge), u8> {
     let nitrate = stages::nitrate(plant, accepted, fraction);
-    if !nitrate.is_covered(accepted[0]) {
+    if !nitrate.is_covered() {
         return Err(refusal::NITRATE);
     }
     hold_terms(plant, accepted, fraction, &nitrate)?;
@@ -91,14 +92,28 @@ fn tank(plant: &Plant, ratio: u64, time: u64, root: u64) -> Result<Tank, u8> {
     })
 }
 
+/// Oxygen for carbon removal, g/d, by the plant's way.
+fn oxygen_for_carbon(plant: &Plant, accepted: &[u64; 5], weighted_age: u64) -> u64 {
+    let [bod, cod, solids, ..] = *accepted;
+    let flow = u64::from(plant.daily_flow);
+    match plant.way {
+        Way::Bod => carbon_oxygen(flow, bod, uptake_for_aeration(weighted_age)),
+        Way::Cod => {
+            let oxygen = cod::uptake(Chain::Aeration, cod, solids, weighted_age);
+            cod::daily_oxygen(flow, oxygen)
+        }
+    }
+}
+
 /// Hourly oxygen and transfer, g/h.
-fn aeration(plant: &Plant, bod: u64, fraction: u64, nitrate: &Nitrate) -> (u64, u64) {
+fn aeration(plant: &Plant, accepted: &[u64; 5], fraction: u64, nitrate: &Nitrate) -> (u64, u64) {
     let flow = u64::from(plant.daily_flow);
     let factor = decay(u64::from(plant.aeration_temperature));
     let weighted = weighted_sludge_age(nitrate.age, factor);
+    let carbon = oxygen_for_carbon(plant, accepted, weighted);
+    let saved = saved_oxygen(flow, nitrate.left_to_bod());
     let hourly = hourly_oxygen(
-        carbon_oxygen(flow, bod, uptake_for_aeration(weighted)),
-        saved_oxygen(flow, nitrate.left_to_bod()),
+        less_saved(plant.way, carbon, saved),
         nitrification_oxygen(flow, nitrate.to_nitrify),
         u64::from(plant.carbon_peak_factor),
         u64::from(plant.nitrogen_peak_factor),
@@ -123,7 +138,7 @@ pub fn design(
     let tank = tank(plant, ratio, time, root)?;
     let reactor = reactor_volume(sludge.mass, reactor_solids(plant.process, tank.solids));
     let volume = settling_volume(tank.surface, tank.depth);
-    let (hourly, transfer) = aeration(plant, accepted[0], fraction, &nitrate);
+    let (hourly, transfer) = aeration(plant, accepted, fraction, &nitrate);
     let target = u64::from(plant.nitrate_target);
     Ok(Sheet {
         fraction,

@@ -8,6 +8,7 @@
 pub mod aeration;
 pub mod age;
 pub mod choose;
+pub mod cod;
 pub mod day_log;
 pub mod examine;
 pub mod listing;
@@ -26,7 +27,7 @@ pub use choose::{census, choose};
 pub use day_log::{two_week_load, TwoWeekLoad};
 pub use examine::{examine, Candidate};
 pub use listing::{listing, write};
-pub use plant::{Plant, Precipitant, PrimarySettling, Process, Removal, Steps, TankFlow};
+pub use plant::{Plant, Precipitant, PrimarySettling, Process, Removal, Steps, TankFlow, Way};
 pub use reading::{accept, Reading};
 pub use sheet::{Answer, Sheet};
 pub use stages::explain;

@@ -81,14 +81,15 @@ pub fn removed_by_dose(dose: u64) -> u64 {
     down(dose, 5)
 }
 
-/// Nitrate that the BOD removes.
-pub fn removed_by_bod(capacity: u64, bod: u64) -> u64 {
-    down(capacity * bod, 1000)
+/// Nitrate that the sewage removes, mg/m3: K x C, or what stands for it, is in
+/// thousandths of that.
+pub fn removed_by_bod(by_sewage: u64) -> u64 {
+    down(by_sewage, 1000)
 }
 
-/// Whether the capacity and the dose cover the nitrate to be denitrified.
-pub fn is_covered(capacity: u64, bod: u64, by_dose: u64, to_denitrify: u64) -> bool {
-    capacity * bod + 1000 * by_dose >= 1000 * to_denitrify
+/// Whether the sewage and the dose cover the nitrate to be denitrified.
+pub fn is_covered(by_sewage: u64, by_dose: u64, to_denitrify: u64) -> bool {
+    by_sewage + 1000 * by_dose >= 1000 * to_denitrify
 }
 
 /// Nitrate that the dose leaves to the BOD; this alone saves oxygen.

@@ -42,6 +42,13 @@ pub enum PrimarySettling {
     Long,
 }
 
+/// Where carbon sludge and carbon's oxygen come from.
+#[derive(Clone, Copy, Debug, PartialEq, Eq)]
+pub enum Way {
+    Bod,
+    Cod,
+}
+
 #[derive(Clone, Copy, Debug, PartialEq, Eq)]
 pub struct Plant {
     /// L, raw BOD5 load, kg/d
@@ -79,6 +86,7 @@ pub struct Plant {
     pub dose: u32,
     /// Terms of the consent, judged after the readings
     pub consent: Consent,
+    pub way: Way,
 }
 
 impl Plant {

@@ -1,6 +1,6 @@
 //! Lab readings: conversion to mg/m3 and acceptance.
 
-use crate::plant::{Plant, PrimarySettling};
+use crate::plant::{Plant, PrimarySettling, Way};
 use crate::refusal;
 use crate::rounding::up;
 
@@ -157,7 +157,7 @@ pub fn accept(plant: &Plant, readings: &[Reading; 5]) -> Result<[u64; 5], u8> {
         results[place] = convert(plant, ORDER[place], readings[place])?;
     }
     let [bod, cod, ..] = results;
-    if 5 * cod > 11 * bod {
+    if plant.way == Way::Bod && 5 * cod > 11 * bod {
         return Err(refusal::COD_RATIO);
     }
     if !plant.consent.is_valid() {

@@ -4,9 +4,10 @@
 //! whether a rule is kept or not.
 
 use crate::age::*;
+use crate::cod::{self, Chain};
 use crate::examine::{on_grid, Candidate};
 use crate::nitrogen::*;
-use crate::plant::{Plant, Removal, TankFlow};
+use crate::plant::{Plant, Process, Removal, TankFlow, Way};
 use crate::reading::{accept, Reading};
 use crate::refusal;
 use crate::settling as step;
@@ -20,8 +21,31 @@ pub struct Nitrate {
     pub weighted_age: u64,
     pub to_nitrify: u64,
     pub to_denitrify: u64,
+    /// K; the simultaneous and the intermittent process do not use it in the COD
+    /// way.
     pub capacity: u64,
+    /// K x C or what stands for it, thousandths of mg/m3.
+    pub by_sewage: u64,
     pub by_dose: u64,
+}
+
+/// K x C, or what stands for it, thousandths of mg/m3: in the COD way the
+/// simultaneous and the intermittent process remove by the oxygen.
+fn by_sewage(
+    plant: &Plant,
+    accepted: &[u64; 5],
+    fraction: u64,
+    capacity: u64,
+    weighted_age: u64,
+) -> u64 {
+    let [bod, cod, solids, ..] = *accepted;
+    match (plant.way, plant.process) {
+        (Way::Cod, Process::Simultaneous | Process::Intermittent) => {
+            let oxygen = cod::uptake(Chain::Cover, cod, solids, weighted_age);
+            cod::removed_by_oxygen(fraction, oxygen)
+        }
+        _ => capacity * bod,
+    }
 }
 
 pub fn nitrate(plant: &Plant, accepted: &[u64; 5], fraction: u64) -> Nitrate {
@@ -31,23 +55,25 @@ pub fn nitrate(plant: &Plant, accepted: &[u64; 5], fraction: u64) -> Nitrate {
     let age = sludge_age(aerobic_sludge_age(factor, growth(temperature)), fraction);
     let weighted_age = weighted_sludge_age(age, decay(temperature));
     let to_nitrify = nitrogen_to_nitrify(nitrogen, bod);
+    let capacity = denitrification_capacity(plant.process, fraction, temperature, weighted_age);
     Nitrate {
         age,
         weighted_age,
         to_nitrify,
         to_denitrify: nitrate_to_denitrify(to_nitrify, u64::from(plant.nitrate_target)),
-        capacity: denitrification_capacity(plant.process, fraction, temperature, weighted_age),
+        capacity,
+        by_sewage: by_sewage(plant, accepted, fraction, capacity, weighted_age),
         by_dose: removed_by_dose(u64::from(plant.dose)),
     }
 }
 
 impl Nitrate {
-    pub fn is_covered(&self, bod: u64) -> bool {
-        is_covered(self.capacity, bod, self.by_dose, self.to_denitrify)
+    pub fn is_covered(&self) -> bool {
+        is_covered(self.by_sewage, self.by_dose, self.to_denitrify)
     }
 
-    pub fn by_bod(&self, bod: u64) -> u64 {
-        removed_by_bod(self.capacity, bod)
+    pub fn by_bod(&self) -> u64 {
+        removed_by_bod(self.by_sewage)
     }
 
     pub fn left_to_bod(&self) -> u64 {
@@ -66,9 +92,11 @@ pub struct InTerm {
     pub to_denitrify: u64,
     /// K of the term.
     pub capacity: u64,
-    /// Nitrate that the BOD removes in the term.
+    /// K x C of the term or what stands for it, thousandths of mg/m3.
+    pub by_sewage: u64,
+    /// The same in whole mg/m3.
     pub by_bod: u64,
-    /// Nitrate that BOD and dose remove together in the term.
+    /// Nitrate that sewage and dose remove together in the term.
     pub removable: u64,
     pub is_covered: bool,
 }
@@ -81,7 +109,13 @@ impl InTerm {
 }
 
 /// A term, with sludge age, nitrogen to be nitrified and dose of the design.
-fn in_term(plant: &Plant, bod: u64, fraction: u64, nitrate: &Nitrate, term: &Term) -> InTerm {
+fn in_term(
+    plant: &Plant,
+    accepted: &[u64; 5],
+    fraction: u64,
+    nitrate: &Nitrate,
+    term: &Term,
+) -> InTerm {
     let temperature = u64::from(term.temperature);
     let factor = safety_factor(u64::from(plant.bod_load));
     let aerobic_age = aerobic_sludge_age(factor, growth(temperature));
@@ -91,15 +125,20 @@ fn in_term(plant: &Plant, bod: u64, fraction: u64, nitrate: &Nitrate, term: &Ter
     let capacity = capacity_in_term(plant.process, fraction, temperature, weighted_age);
     let target = u64::from(term.nitrate_target);
     let to_denitrify = nitrate_to_denitrify(nitrate.to_nitrify, target);
-    let by_bod = removed_by_bod(capacity, bod);
+    let by_sewage = match fraction {
+        0..200 => 0,
+        _ => by_sewage(plant, accepted, fraction, capacity, weighted_age),
+    };
+    let by_bod = removed_by_bod(by_sewage);
     InTerm {
         aerobic_share: aerobic_share(aerobic_age, nitrate.age),
         fraction,
         to_denitrify,
         capacity,
+        by_sewage,
         by_bod,
         removable: by_bod + nitrate.by_dose,
-        is_covered: is_covered(capacity, bod, nitrate.by_dose, to_denitrify),
+        is_covered: is_covered(by_sewage, nitrate.by_dose, to_denitrify),
     }
 }
 
@@ -112,7 +151,7 @@ pub fn terms(
 ) -> [Option<InTerm>; MOST_TERMS] {
     let mut all = [None; MOST_TERMS];
     for (place, term) in plant.consent.named().iter().enumerate() {
-        all[place] = Some(in_term(plant, accepted[0], fraction, nitrate, term));
+        all[place] = Some(in_term(plant, accepted, fraction, nitrate, term));
     }
     all
 }
@@ -124,12 +163,22 @@ pub struct Sludge {
     pub mass: u64,
 }
 
+/// Sludge from carbon removal, g/d, by the plant's way.
+fn sludge_from_carbon(plant: &Plant, accepted: &[u64; 5], weighted_age: u64) -> u64 {
+    let [bod, cod, solids, ..] = *accepted;
+    let flow = u64::from(plant.daily_flow);
+    match plant.way {
+        Way::Bod => carbon_sludge(flow, bod, solids, endogenous_loss(weighted_age)),
+        Way::Cod => cod::carbon_sludge(flow, cod, solids, u64::from(plant.dose), weighted_age),
+    }
+}
+
 pub fn sludge(plant: &Plant, accepted: &[u64; 5], nitrate: &Nitrate) -> Sludge {
-    let [bod, _, solids, _, phosphorus] = *accepted;
+    let [bod, _, _, _, phosphorus] = *accepted;
     let flow = u64::from(plant.daily_flow);
     let target = u64::from(plant.phosphorus_target);
     let precipitated = phosphorus_to_precipitate(phosphorus, target, bod);
-    let production = carbon_sludge(flow, bod, solids, endogenous_loss(nitrate.weighted_age))
+    let production = sludge_from_carbon(plant, accepted, nitrate.weighted_age)
         + phosphorus_sludge(flow, plant.precipitant, precipitated);
     Sludge {
         production,
@@ -201,9 +250,9 @@ pub fn settling(plant: &Plant, ratio: u64, time: u64, root: u64) -> Settling {
 #[derive(Clone, Copy, Debug)]
 pub struct Stages {
     pub nitrate: Nitrate,
-    /// Nitrate that the BOD removes.
+    /// Nitrate that the sewage removes.
     pub by_bod: u64,
-    /// Nitrate that BOD and dose remove together.
+    /// Nitrate that sewage and dose remove together.
     pub removable: u64,
     /// The terms of the consent; none from the count on.
     pub terms: [Option<InTerm>; MOST_TERMS],
@@ -220,7 +269,7 @@ pub fn explain(plant: &Plant, readings: &[Reading; 5], candidate: Candidate) -> 
     let ratio = u64::from(candidate.return_ratio);
     let fraction = u64::from(candidate.fraction);
     let nitrate = nitrate(plant, &accepted, fraction);
-    let by_bod = nitrate.by_bod(accepted[0]);
+    let by_bod = nitrate.by_bod();
     Ok(Stages {
         nitrate,
         by_bod,

@@ -4,6 +4,8 @@
 mod bulking;
 #[path = "cases/census.rs"]
 mod census;
+#[path = "cases/cod.rs"]
+mod cod;
 #[path = "cases/common.rs"]
 mod common;
 #[path = "cases/day_log.rs"]

@@ -2,6 +2,7 @@
 use borrow.Author.Needs.{needs}
 use mathlib.Core.Path.{_≡_, _∙_}
 use Rattle.accepting.specs.Conversion.{gather, acceptReadings}
+use Rattle.rules.specs.declared.Way.{Way}
 use Rattle.rules.specs.declared.Parameter.{Parameter}
 use Rattle.accepting.specs.declared.Converted.{Converted}
 use Rattle.accepting.proofs.Gathering.{converted-most}
@@ -9,9 +10,9 @@ use Rattle.accepting.proofs.accept_readings.Statement.{statement}
 use Rattle.accepting.proofs.accept_readings.Tie as tie
 
 five :
-    {c c' o o' s s' n n' p p' : Converted} → c ≡ c' → o ≡ o' → s ≡ s' → n ≡ n' → p ≡ p'
-    → gather c o s n p ≡ gather c' o' s' n' p'
-five ec eo es en ep = cc
+    (way : Way) {c c' o o' s s' n n' p p' : Converted} → c ≡ c' → o ≡ o' → s ≡ s' → n ≡ n' → p ≡ p'
+    → gather way c o s n p ≡ gather way c' o' s' n' p'
+five way ec eo es en ep = cc
 
 gather-requires : tie.Need-gather-requires
 gather-requires c κs = (
@@ -23,7 +24,7 @@ returns : tie.Need-returns
 unfolding acceptReadings
 returns c =
     c .gather .ensures
-    ∙ five (c .before .before .before .before .before .convert .ensures) (c .before .before .before .before .convert2 .ensures)
+    ∙ five (c .before .before .before .before .before .before .args .way) (c .before .before .before .before .before .convert .ensures) (c .before .before .before .before .convert2 .ensures)
     (c .before .before .before .convert3 .ensures) (c .before .before .convert4 .ensures) (c .before .convert5 .ensures)
 
 pub accept-readings-spec : {M : Type 1} → statement M

@@ -12,8 +12,8 @@ returns c =
     let nitrification = hourly .before in
     let net = nitrification .before in
     let own = net .before in
-    let uptake = own .before in
-    let corrected = uptake .before in
+    let carbon = own .before in
+    let corrected = carbon .before in
     rw (
       c .recirculated .ensures,
       transfer .transfer .ensures,
@@ -21,7 +21,7 @@ returns c =
       nitrification .nitrification-oxygen .ensures .0,
       net .net-carbon .ensures .0,
       own .denitrified-by-bod .ensures .0,
-      uptake .aeration-uptake .ensures .0,
+      carbon .carbon-oxygen-in .ensures .0,
       corrected .corrected-age .ensures .0,
     )
 

@@ -53,42 +53,42 @@ unfolding candidateExplained explainedBy
 handed-on p x y r s v a b c d er es ev ea eb ec ed = rw (ea, eb, ec, ed, ev, er, es)
 
 -- a season's figures are its term's
-module _ (p : Plant) (x : Concentrations) (r : Reactor) (s : Seasons) (e : s ≡ seasonsOf p) where
-  first-term : entryExplained (s .count) 0 (p .process) (x .bod) r (s .first) ≡ termAt p x r 0 (p .consent .first)
+module _ (p : Plant) (x : Concentrations) (r : Reactor) (s : Seasons) (e : s ≡ seasonsOf p x) where
+  first-term : entryExplained (s .count) 0 (p .way) (p .process) x r (s .first) ≡ termAt p x r 0 (p .consent .first)
   unfolding seasonsOf
-  first-term = ap (λ (t : Seasons). entryExplained (t .count) 0 (p .process) (x .bod) r (t .first)) e ∙ explained-at p x r 0 (p .consent .first)
+  first-term = ap (λ (t : Seasons). entryExplained (t .count) 0 (p .way) (p .process) x r (t .first)) e ∙ explained-at p x r 0 (p .consent .first)
 
-  second-term : entryExplained (s .count) 1 (p .process) (x .bod) r (s .second) ≡ termAt p x r 1 (p .consent .second)
+  second-term : entryExplained (s .count) 1 (p .way) (p .process) x r (s .second) ≡ termAt p x r 1 (p .consent .second)
   unfolding seasonsOf
-  second-term = ap (λ (t : Seasons). entryExplained (t .count) 1 (p .process) (x .bod) r (t .second)) e ∙ explained-at p x r 1 (p .consent .second)
+  second-term = ap (λ (t : Seasons). entryExplained (t .count) 1 (p .way) (p .process) x r (t .second)) e ∙ explained-at p x r 1 (p .consent .second)
 
-  third-term : entryExplained (s .count) 2 (p .process) (x .bod) r (s .third) ≡ termAt p x r 2 (p .consent .third)
+  third-term : entryExplained (s .count) 2 (p .way) (p .process) x r (s .third) ≡ termAt p x r 2 (p .consent .third)
   unfolding seasonsOf
-  third-term = ap (λ (t : Seasons). entryExplained (t .count) 2 (p .process) (x .bod) r (t .third)) e ∙ explained-at p x r 2 (p .consent .third)
+  third-term = ap (λ (t : Seasons). entryExplained (t .count) 2 (p .way) (p .process) x r (t .third)) e ∙ explained-at p x r 2 (p .consent .third)
 
-  fourth-term : entryExplained (s .count) 3 (p .process) (x .bod) r (s .fourth) ≡ termAt p x r 3 (p .consent .fourth)
+  fourth-term : entryExplained (s .count) 3 (p .way) (p .process) x r (s .fourth) ≡ termAt p x r 3 (p .consent .fourth)
   unfolding seasonsOf
-  fourth-term = ap (λ (t : Seasons). entryExplained (t .count) 3 (p .process) (x .bod) r (t .fourth)) e ∙ explained-at p x r 3 (p .consent .fourth)
+  fourth-term = ap (λ (t : Seasons). entryExplained (t .count) 3 (p .way) (p .process) x r (t .fourth)) e ∙ explained-at p x r 3 (p .consent .fourth)
 
 explained-in-requires : tie.Need-explained-in-requires
 explained-in-requires c κs =
     let staged = c .before .before .before .before .before .before .before .before in
-    (staged .before .pre .1 .bod .most, staged .stages-of .ensures .reactorBounds, staged .stages-of .ensures .seasons .bounds .first)
+    (staged .before .pre .1, staged .stages-of .ensures .reactorBounds, staged .stages-of .ensures .seasons .bounds .first)
 
 explained-in-requires-2 : tie.Need-explained-in-requires-2
 explained-in-requires-2 c κs =
     let staged = c .before .before .before .before .before .before .before .before .before in
-    (staged .before .pre .1 .bod .most, staged .stages-of .ensures .reactorBounds, staged .stages-of .ensures .seasons .bounds .second)
+    (staged .before .pre .1, staged .stages-of .ensures .reactorBounds, staged .stages-of .ensures .seasons .bounds .second)
 
 explained-in-requires-3 : tie.Need-explained-in-requires-3
 explained-in-requires-3 c κs =
     let staged = c .before .before .before .before .before .before .before .before .before .before in
-    (staged .before .pre .1 .bod .most, staged .stages-of .ensures .reactorBounds, staged .stages-of .ensures .seasons .bounds .third)
+    (staged .before .pre .1, staged .stages-of .ensures .reactorBounds, staged .stages-of .ensures .seasons .bounds .third)
 
 explained-in-requires-4 : tie.Need-explained-in-requires-4
 explained-in-requires-4 c κs =
     let staged = c .before .before .before .before .before .before .before .before .before .before .before in
-    (staged .before .pre .1 .bod .most, staged .stages-of .ensures .reactorBounds, staged .stages-of .ensures .seasons .bounds .fourth)
+    (staged .before .pre .1, staged .stages-of .ensures .reactorBounds, staged .stages-of .ensures .seasons .bounds .fourth)
 
 add-t22 : tie.Need-add-t22
 add-t22 c =

@@ -43,7 +43,7 @@ returns-3 c =
       covered .every-covered .ensures,
       nitrified .every-nitrified .ensures,
       start .pre .2 .value,
-      every-nitrified plant (start .args .reactor),
+      every-nitrified plant (start .args .concentrations) (start .args .reactor),
       every-covered plant (start .args .concentrations) (start .args .reactor),
     )
 

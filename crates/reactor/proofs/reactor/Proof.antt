@@ -1,71 +1,78 @@
 -- `reactor` meets its contract: what each call ensures, put in from the last call back, is the definition's own chain of
--- figures, with the design's a and F from its season, and each figure has its limit from its call. Assumes nothing.
+-- figures, with the inflow's figures and the design's a and F from what was reckoned once; each figure has its limit. Assumes nothing.
 use borrow.Author.Needs.{needs}
-use mathlib.Core.Path.{_≡_, ap, _∙_}
-use native.Mathlib.Nat.{mul-le-mul}
+use mathlib.Core.Path.{_≡_, ap}
+use Prim.Native.Nat.{_+_, _≤_}
 use native.Mathlib.Omega.{arith}
 use Rattle.rules.specs.AgeNitrate.{safetyFactor, decay, aerobicAge, correctedAge}
-use Rattle.rules.specs.ReactorSteps.{reactorOf}
+use Rattle.rules.specs.Limits.{mostSludge}
+use Rattle.rules.specs.ReactorSteps.{sludgeProduction, reactorBy, reactorDosed, reactorOf}
 use Rattle.rules.specs.declared.Plant.{Plant}
-use Rattle.reactor.specs.Seasons.{seasonWith, seasonsOf}
+use Rattle.rules.specs.declared.Concentrations.{Concentrations}
+use Rattle.reactor.specs.Seasons.{inflowOf, seasonWith, seasonsOf}
+use Rattle.reactor.specs.declared.Inflow.{Inflow}
 use Rattle.reactor.specs.declared.Seasons.{Seasons}
 use Rattle.reactor.proofs.reactor.Statement.{statement}
 use Rattle.reactor.proofs.reactor.Tie as tie
 
 -- a and F of the design are its season's
-design-age : (p : Plant) (s : Seasons) → s ≡ seasonsOf p → s .design .«aerobic_age» ≡ aerobicAge (safetyFactor (p .load)) (p .«design_temperature»)
+design-age :
+    (p : Plant) (x : Concentrations) (s : Seasons)
+    → s ≡ seasonsOf p x
+    → s .design .«aerobic_age» ≡ aerobicAge (safetyFactor (p .load)) (p .«design_temperature»)
 unfolding seasonsOf seasonWith
-design-age p s e = ap (λ (t : Seasons). t .design .«aerobic_age») e
+design-age p x s e = ap (λ (t : Seasons). t .design .«aerobic_age») e
 
-design-decay : (p : Plant) (s : Seasons) → s ≡ seasonsOf p → s .design .decay ≡ decay (p .«design_temperature»)
+design-decay : (p : Plant) (x : Concentrations) (s : Seasons) → s ≡ seasonsOf p x → s .design .decay ≡ decay (p .«design_temperature»)
 unfolding seasonsOf seasonWith
-design-decay p s e = ap (λ (t : Seasons). t .design .decay) e
+design-decay p x s e = ap (λ (t : Seasons). t .design .decay) e
 
-sludge-age-requires : tie.Need-sludge-age-requires
-sludge-age-requires c κs = let start = c .before .before .before in (start .pre .3 .bounds .designAge, start .pre .2 .most)
+-- the inflow's figures are the plant's
+own-inflow : (p : Plant) (x : Concentrations) (s : Seasons) → s ≡ seasonsOf p x → s .inflow ≡ inflowOf p x
+unfolding seasonsOf
+own-inflow p x s e = ap (λ (t : Seasons). t .inflow) e
 
-corrected-by-requires : tie.Need-corrected-by-requires
-corrected-by-requires c κs =
-    let start = c .before .before .before .before in
-    (omega (arith, c .sludge-age .ensures .1), start .pre .3 .bounds .design .decay)
-
-mul-removes : tie.Need-mul-removes
-mul-removes c =
+carbon : (c : tie.After-carbon-sludge-in) → c .carbon-sludge-in .result + c .before .before .before .before .before .before .before .before .before .args .seasons .inflow .«phosphorus_sludge» ≤ mostSludge
+carbon c =
     let start = c .before .before .before .before .before .before .before .before .before in
-    omega (arith, mul-le-mul (c .capacity .ensures .1) (start .pre .1 .bod .most))
+    omega (arith, c .carbon-sludge-in .ensures .1, start .pre .3 .bounds .inflow .phosphorus)
+
+add-sludge : tie.Need-add-sludge
+add-sludge c = omega (arith, carbon (c .before))
+
+sludge-mass-requires : tie.Need-sludge-mass-requires
+sludge-mass-requires c κs = (c .before .before .before .before .sludge-age .ensures .1 .most, carbon (c .before))
 
 returns : tie.Need-returns
-unfolding reactorOf correctedAge
+unfolding reactorOf reactorDosed reactorBy sludgeProduction correctedAge inflowOf
 returns c =
-    let sludge = c .before in
-    let byDose = sludge .before in
-    let capacity = byDose .before in
-    let denitrified = capacity .before in
-    let nitrified = denitrified .before .before in
-    let corrected = nitrified .before in
+    let carbonic = c .before .before in
+    let removed = carbonic .before in
+    let corrected = removed .before in
     let age = corrected .before in
-    let start = age .before .before .before .before in
-    let value = start .pre .3 .value in (
+    let start = age .before .before .before .before .before .before in
+    let p = start .args .plant in
+    let x = start .args .concentrations in
+    let value = start .pre .3 .value in
+    let inflow = start .pre .3 .bounds .inflow in (
       rw (
         c .sludge-mass .ensures .0,
-        sludge .sludge-production .ensures .0,
-        byDose .removed-by-dose .ensures .0,
-        capacity .capacity .ensures .0,
-        denitrified .denitrified .ensures .0,
-        nitrified .nitrified .ensures .0,
+        carbonic .carbon-sludge-in .ensures .0,
+        removed .removes .ensures .0,
         corrected .corrected-by .ensures .0,
         age .sludge-age .ensures .0,
-        design-age (start .args .plant) (start .args .seasons) value,
-        design-decay (start .args .plant) (start .args .seasons) value,
+        design-age p x (start .args .seasons) value,
+        design-decay p x (start .args .seasons) value,
+        own-inflow p x (start .args .seasons) value,
       ),
       record {
         fraction = start .pre .2;
         age = age .sludge-age .ensures .1;
-        nitrified = nitrified .nitrified .ensures .1;
-        denitrified = denitrified .denitrified .ensures .1;
-        removes = omega (arith, mul-le-mul (capacity .capacity .ensures .1) (start .pre .1 .bod .most));
-        byDose = byDose .removed-by-dose .ensures .1;
-        sludge = sludge .sludge-production .ensures .1;
+        nitrified = inflow .nitrified;
+        denitrified = inflow .denitrified;
+        removes = removed .removes .ensures .1;
+        byDose = inflow .byDose;
+        sludge = carbon carbonic;
         mass = c .sludge-mass .ensures .1;
       },
     )
@@ -76,14 +83,11 @@ reactor-spec =
     (tie.spec
     (λ c. search needs)
     (λ c. search needs)
-    sludge-age-requires
-    corrected-by-requires
-    (λ c κs. search needs)
     (λ c. search needs)
     (λ c κs. search needs)
     (λ c κs. search needs)
-    mul-removes
     (λ c κs. search needs)
     (λ c κs. search needs)
-    (λ c κs. search needs)
+    add-sludge
+    sludge-mass-requires
     returns)

@@ -22,6 +22,9 @@ read-words-requires c κs = omega (arith, whole (c .before))
 consent-requires : tie.Need-consent-requires
 consent-requires c κs = omega (arith, whole (c .before .before .before))
 
+word-requires : tie.Need-word-requires
+word-requires c κs = omega (arith, whole (c .before .before .before .before))
+
 returns : tie.Need-returns
 unfolding decode
 returns c = let held = c .before in rw (← held .before .before .framed .ensures, held .fault .given .1)
@@ -29,12 +32,13 @@ returns c = let held = c .before in rw (← held .before .before .framed .ensure
 returns-2 : tie.Need-returns-2
 unfolding decode
 returns-2 c =
-    let consent = c .before in
+    let way = c .before in
+    let consent = way .before in
     let read = consent .before .before in
     let told = read .before .before in
     let framed = told .before .before in
     rw (← framed .framed .ensures, told .enum-told .given .1)
-    (c .decode-words .ensures ∙ rw (consent .consent .ensures, read .read-words .ensures))
+    (c .decode-words .ensures ∙ rw (way .word .ensures, consent .consent .ensures, read .read-words .ensures))
 
 pub decode-spec : {M : Type 1} → statement M
 decode-spec =
@@ -47,6 +51,7 @@ decode-spec =
     (λ c. search needs)
     read-words-requires
     consent-requires
+    word-requires
     (λ c κs. search needs)
     returns
     returns-2)

@@ -6,7 +6,8 @@ use Rattle.request.proofs.plant.Tie as tie
 
 returns : tie.Need-returns
 returns c =
-    let removal = c .before in
+    let settling = c .before in
+    let removal = settling .before in
     let tank = removal .before in
     let precipitant = tank .before in
     let process = precipitant .before in
@@ -17,8 +18,9 @@ returns c =
     (precipitant .precipitant .ensures i)
     (tank .tank-flow .ensures i)
     (removal .removal .ensures i)
-    (c .primary-settling .ensures i)
+    (settling .primary-settling .ensures i)
     (process .before .args .consent)
+    (c .way .ensures i)
 
 pub plant-spec : {M : Type 1} → statement M
 plant-spec =
@@ -48,4 +50,5 @@ plant-spec =
     (λ c. search needs)
     (λ c κs. search needs)
     (λ c. search needs)
+    (λ c κs. search needs)
     returns)

@@ -61,7 +61,7 @@ fn least(request: &Request) -> Vec<Rank> {
     let mut ranks: Vec<Rank> = Vec::new();
     for fraction in 200..=500 {
         let nitrate = stages::nitrate(&plant, &accepted, fraction);
-        if !nitrate.is_covered(accepted[0]) {
+        if !nitrate.is_covered() {
             continue;
         }
         let mass = stages::sludge(&plant, &accepted, &nitrate).mass;
@@ -133,8 +133,8 @@ pub fn ties(cases: &mut Collection, random: &mut Random) {
 pub fn fractions(request: &Request) -> Option<(u64, u64)> {
     let accepted = accepted(request)?;
     let plant = request.decoded().ok()?.plant;
-    let covered = (200..=500)
-        .find(|fraction| stages::nitrate(&plant, &accepted, *fraction).is_covered(accepted[0]))?;
+    let covered =
+        (200..=500).find(|fraction| stages::nitrate(&plant, &accepted, *fraction).is_covered())?;
     let decoded = request.decoded().ok()?;
     match reference::choose(&decoded.plant, &decoded.readings) {
         Answer::Sheet(sheet) => Some((sheet.fraction, covered)),
@@ -171,7 +171,7 @@ pub fn heavier_first(cases: &mut Collection, random: &mut Random) {
 fn cause(request: &Request) -> Option<&'static str> {
     let accepted = accepted(request)?;
     let plant = request.decoded().ok()?.plant;
-    if !stages::nitrate(&plant, &accepted, 500).is_covered(accepted[0]) {
+    if !stages::nitrate(&plant, &accepted, 500).is_covered() {
         return Some("no design: nitrate");
     }
     let (mut shallow, mut thin, mut kept) = (false, false, false);

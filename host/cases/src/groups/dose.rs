@@ -4,7 +4,7 @@
 use super::choices::fractions;
 use crate::collection::{chosen, examined, Collection};
 use crate::figures;
-use crate::lines::{accepted, on_cover, on_dose, on_whole_dose};
+use crate::lines::{on_cover, on_dose, on_whole_dose};
 use crate::plants::{self, case_a, roomy};
 use crate::random::Random;
 use crate::request::*;
@@ -49,8 +49,7 @@ fn just_covered(
 /// K x C is 200 or more above a multiple of 1000.
 fn by_rounding(request: &Request) -> bool {
     let stages = figures::of_request(request).unwrap();
-    let bod = accepted(request).unwrap()[0];
-    stages.nitrate.capacity * bod % 1000 >= 200
+    stages.nitrate.by_sewage % 1000 >= 200
 }
 
 /// For each process a dose of 5 n that just covers, 5 n - 1, and 5 n + 4 with

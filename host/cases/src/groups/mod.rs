@@ -2,6 +2,10 @@
 
 mod bulking;
 mod choices;
+mod cod;
+mod cod_choices;
+mod cod_cover;
+pub mod cod_roundings;
 mod degrees;
 mod dose;
 mod edges;
@@ -74,5 +78,30 @@ pub fn all() -> Collection {
     pauses::ends(&mut cases);
     pauses::choices(&mut cases, &mut random);
     settling::finer(&mut cases, &mut random);
+    by_cod(&mut cases, &mut random);
     cases
+}
+
+/// The cases in the COD way.
+fn by_cod(cases: &mut Collection, random: &mut Random) {
+    cod::worked(cases);
+    cod::processes(cases);
+    cod::ratio(cases);
+    cod::order(cases);
+    cod::dose(cases);
+    cod::dose_covers(cases, random);
+    cod::held(cases);
+    cod::no_oxygen(cases);
+    cod::saved(cases);
+    cod::ends(cases);
+    cod_cover::design(cases, random);
+    cod_cover::terms(cases, random);
+    cod_cover::fraction_200(cases, random);
+    cod_cover::not_upward(cases, random);
+    cod_roundings::sheets(cases, random);
+    cod_roundings::covers(cases, random);
+    cod_choices::moved(cases, random);
+    cod_choices::no_design(cases, random);
+    cod_choices::pages(cases);
+    cod_choices::plain(cases, random);
 }

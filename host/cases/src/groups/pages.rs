@@ -5,7 +5,7 @@ use crate::plants::{case_a, roomy};
 use crate::request::*;
 
 /// Bytes of the listing on a page that is long enough.
-fn listing_length(operation: Operation, request: Request) -> u32 {
+pub fn listing_length(operation: Operation, request: Request) -> u32 {
     let case = Case {
         kind: "",
         operation,

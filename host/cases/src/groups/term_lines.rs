@@ -4,7 +4,7 @@
 use super::terms::{searched, winter, with_temperatures};
 use crate::collection::{examined, Collection};
 use crate::figures;
-use crate::lines::{accepted, on_cover, on_term_cover, on_term_dose};
+use crate::lines::{on_cover, on_term_cover, on_term_dose};
 use crate::random::Random;
 use crate::request::*;
 use reference::age::*;
@@ -93,7 +93,7 @@ fn left(request: &Request, temperature: u32, fraction: u32) -> Option<u64> {
 
 /// The candidate moved to a fraction at which the term leaves the one, and at
 /// the fraction before the other.
-fn on_left(request: Request, here: Option<u64>, before: Option<u64>) -> Option<Request> {
+pub fn on_left(request: Request, here: Option<u64>, before: Option<u64>) -> Option<Request> {
     let temperature = request.get(term_word(0, TERM_TEMPERATURE));
     let at = |fraction| left(&request, temperature, fraction);
     let fraction = (201..=500).find(|f| at(*f) == here && at(*f - 1) == before)?;
@@ -101,7 +101,7 @@ fn on_left(request: Request, here: Option<u64>, before: Option<u64>) -> Option<R
 }
 
 /// The candidate at the fraction before.
-fn one_before(request: Request) -> Request {
+pub fn one_before(request: Request) -> Request {
     request.with(FRACTION, request.get(FRACTION) - 1)
 }
 
@@ -153,9 +153,8 @@ pub fn nitrification(cases: &mut Collection, random: &mut Random) {
 /// Whether one less would cover if a fifth of the dose were not rounded down,
 /// or the BOD removes nothing; and that one less gets 16.
 fn decided_by_dose(request: &Request, term: &InTerm) -> bool {
-    let bod = accepted(request).unwrap()[0];
     let dose = request.get(DOSE);
-    let by_rounding = term.capacity * bod % 1000 >= 200;
+    let by_rounding = term.by_sewage % 1000 >= 200;
     dose > 0 && (term.capacity == 0 || by_rounding) && examined(&request.with(DOSE, dose - 1)) == 16
 }
 

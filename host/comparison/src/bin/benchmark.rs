@@ -1,7 +1,7 @@
 //! Choices, censuses, examinations and two-week loads per second of the library
 //! and of the reference, on the same plants and day logs; the time of a census
-//! beside that of a choice, and of a choice with four terms beside one without;
-//! and the stack that a call takes.
+//! beside that of a choice, of a choice with four terms beside one without and of
+//! one in the COD way beside one in the BOD way; and the stack that a call takes.
 
 use cases::model;
 use cases::plants;
@@ -29,7 +29,8 @@ fn chosen(request: &Request) -> u32 {
 }
 
 /// For each tank flow and process three plants with a design and one
-/// without, each with a candidate; none has a dose or a term.
+/// without, each with a candidate; none has a dose or a term, all are in the BOD
+/// way.
 fn benchmark_plants() -> Vec<Request> {
     let mut random = Random::new(6_000);
     let mut found = Vec::new();
@@ -77,6 +78,12 @@ fn with_four_terms(plants: &[Request]) -> Vec<Request> {
         ])
     };
     plants.iter().map(four).collect()
+}
+
+/// The same plants in the COD way.
+fn by_cod(plants: &[Request]) -> Vec<Request> {
+    let by_cod = |plant: &Request| plant.with(WAY, BY_COD);
+    plants.iter().map(by_cod).collect()
 }
 
 /// Runs over all requests until the least time has passed: calls per second.
@@ -194,6 +201,17 @@ fn four_terms_beside_none(plants: &[Request]) -> f64 {
     share
 }
 
+/// The time of a choice in the COD way in hundredths of that in the BOD way,
+/// over all plants.
+fn cod_beside_bod(plants: &[Request]) {
+    let by_bod = requests(plants, |_| true);
+    let by_cod = requests(&by_cod(plants), |_| true);
+    let pairs = by_bod.iter().zip(&by_cod);
+    let share =
+        share_of_time(pairs.map(|(bod, cod)| [(choice as _, &bod[..]), (choice as _, &cod[..])]));
+    println!("time of a choice in the COD way beside one in the BOD way: {share:.0}%");
+}
+
 /// The time of a census in hundredths of that of a choice, over some plants.
 fn census_beside_choice(name: &str, plants: &[Request], wanted: impl Fn(&Request) -> bool) -> f64 {
     let requests = requests(plants, wanted);
@@ -205,11 +223,11 @@ fn census_beside_choice(name: &str, plants: &[Request], wanted: impl Fn(&Request
     share
 }
 
-fn examinations(plants: &[Request]) {
+fn examinations(name: &str, plants: &[Request]) {
     let all: Vec<Vec<u8>> = plants.iter().map(Request::examine_bytes).collect();
     let by_library = |request: &[u8]| library::examine(request, &mut [0; PAGE]).0;
     let by_reference = |request: &[u8]| model::examine(request, PAGE).number;
-    row("examine", rates(&all, by_library, by_reference));
+    row(name, rates(&all, by_library, by_reference));
 }
 
 /// Logs of ten years: plausible days, and any days up to the limits.
@@ -233,7 +251,9 @@ fn stacks(plants: &[Request]) {
     let winter = [11, 16, 3, 15, 8, 20_000];
     let target = targets::request(4, &[winter; MOST_TERMS], (2, 29));
     let mut page = [0; PAGE];
-    for plant in plants.iter().chain(&with_four_terms(plants)) {
+    let four_terms = with_four_terms(plants);
+    let by_cod = by_cod(&four_terms);
+    for plant in plants.iter().chain(&four_terms).chain(&by_cod) {
         let (examine, choose) = (plant.examine_bytes(), plant.choose_bytes());
         let taken = [
             stack_of(library::CHOOSE, &choose, &mut page),
@@ -278,12 +298,21 @@ fn main() {
     choices("choose, without a design", &plants, |plant| {
         !with_design(plant)
     });
+    let cod_plants = by_cod(&plants);
+    choices("choose, all by COD", &cod_plants, |_| true);
+    choices("choose, by COD, four terms", &by_cod(&four_terms), |_| true);
+    choices("choose, by COD, a design", &cod_plants, with_design);
+    choices("choose, by COD, no design", &cod_plants, |plant| {
+        !with_design(plant)
+    });
     censuses(&plants);
-    examinations(&plants);
+    examinations("examine", &plants);
+    examinations("examine, by COD", &cod_plants);
     loads();
     stacks(&plants);
     census_beside_choice("with a design", &plants, with_design);
     census_beside_choice("without a design", &plants, |plant| !with_design(plant));
+    cod_beside_bod(&plants);
     let share = census_beside_choice("all plants", &plants, |_| true);
     assert!(share <= 100.0, "a census is to be no slower than a choice");
     let share = four_terms_beside_none(&plants);

@@ -24,6 +24,7 @@ pub fn plant_a() -> Plant {
         primary_settling: PrimarySettling::None,
         dose: 0,
         consent: Consent::none(),
+        way: Way::Bod,
     }
 }
 

@@ -29,7 +29,7 @@ fn uptake_rounded_up_for_aeration() {
         let carbon = aeration::carbon_oxygen(5_000, 200_000, uptake);
         let saved = aeration::saved_oxygen(5_000, 26_000);
         let nitrification = aeration::nitrification_oxygen(5_000, 36_000);
-        aeration::hourly_oxygen(carbon, saved, nitrification, 120, 200)
+        aeration::hourly_oxygen(carbon - saved, nitrification, 120, 200)
     };
     assert_eq!(found.hourly_oxygen, hourly(aeration_uptake));
     assert_ne!(found.hourly_oxygen, hourly(capacity_uptake));
@@ -52,7 +52,7 @@ fn uptake_rounded_down_for_capacity() {
         examine(&plant, &readings, candidate(304, 75, 20)).number()
     };
     // D is 17,400: 87 x 200.
-    assert!(nitrogen::is_covered(87, 200_000, 0, 17_400));
+    assert!(nitrogen::is_covered(87 * 200_000, 0, 17_400));
     assert_eq!(with_nitrogen(37.4), 7);
     // D is 17,200: 86 x 200.
     assert_eq!(with_nitrogen(37.2), 0);

@@ -25,6 +25,7 @@ fn largest_plant() -> Plant {
         primary_settling: PrimarySettling::None,
         dose: 0,
         consent: Consent::none(),
+        way: Way::Bod,
     }
 }
 
@@ -69,6 +70,41 @@ fn largest_transfer() {
             assert!(exact < 10_000_000_000_000_000);
             let divisor = 500 * u128::from(saturation - 2_000);
             assert_eq!(u128::from(found.oxygen_transfer), exact.div_ceil(divisor));
+        }
+    }
+}
+
+/// The most COD beside the least and the most BOD, and the most solids beside
+/// the least COD, with every process.
+#[test]
+fn ends_of_the_cod_way() {
+    for process in [
+        Process::PreAnoxic,
+        Process::Simultaneous,
+        Process::Intermittent,
+        Process::StepFeed(Steps::Two),
+        Process::StepFeed(Steps::Three),
+    ] {
+        for (bod, cod, solids) in [
+            (20.0, 4_400.0, 0.0),
+            (2_000.0, 4_400.0, 2_000.0),
+            (2_000.0, 20.0, 2_000.0),
+            (20.0, 20.0, 0.0),
+        ] {
+            for dose in [0, 500_000] {
+                let plant = Plant {
+                    process,
+                    dose,
+                    way: Way::Cod,
+                    ..largest_plant()
+                };
+                let readings = measured([bod, cod, solids, 3.8, 100.0]);
+                let found = examine(&plant, &readings, candidate(500, 30, 20));
+                assert_eq!(found.number(), 0);
+                assert!(found.sheet().oxygen_transfer < 1_000_000_000);
+                let counts = census(&plant, &readings).unwrap();
+                assert_eq!(counts.iter().sum::<u64>(), 301 * 71 * 6);
+            }
         }
     }
 }

@@ -42,6 +42,7 @@ fn plant(generator: &mut Generator) -> Plant {
     let dose = generator.within(0, 500_000);
     plant.dose = generator.pick(&[0, dose]);
     plant.consent = terms(generator, &plant);
+    plant.way = generator.pick(&[Way::Bod, Way::Cod]);
     plant
 }
 

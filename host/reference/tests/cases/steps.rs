@@ -125,9 +125,9 @@ fn least_depth() {
 #[test]
 fn oxygen_peaks() {
     // (300 x 6,000 + 100 x 1,000) / 2,400 and (100 x 6,000 + 200 x 1,000) / 2,400.
-    assert_eq!(aeration::hourly_oxygen(7_000, 1_000, 1_000, 300, 200), 792);
+    assert_eq!(aeration::hourly_oxygen(6_000, 1_000, 300, 200), 792);
     // (100 x 6,000 + 100 x 3,000) / 2,400 and (100 x 6,000 + 200 x 3,000) / 2,400.
-    assert_eq!(aeration::hourly_oxygen(7_000, 1_000, 3_000, 100, 200), 500);
+    assert_eq!(aeration::hourly_oxygen(6_000, 3_000, 100, 200), 500);
     assert_eq!(aeration::oxygen_transfer(6_000, 792), 1_188);
     assert_eq!(aeration::oxygen_transfer(15_000, 792), 914);
 }
@@ -210,6 +210,6 @@ fn oxygen_just_beside_a_whole_number() {
     assert_eq!(aeration::nitrification_oxygen(1, 1), 1);
     assert_eq!(aeration::saved_oxygen(1, 9_999), 28);
     // 200 x 2,401 / 2,400 = 200.1.
-    assert_eq!(aeration::hourly_oxygen(2_401, 0, 0, 200, 100), 201);
-    assert_eq!(aeration::hourly_oxygen(0, 0, 2_401, 100, 200), 201);
+    assert_eq!(aeration::hourly_oxygen(2_401, 0, 200, 100), 201);
+    assert_eq!(aeration::hourly_oxygen(0, 2_401, 100, 200), 201);
 }

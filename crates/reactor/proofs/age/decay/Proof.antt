@@ -3,7 +3,7 @@ use borrow.Author.Needs.{needs}
 use borrow.Author.Tests.{le-leb, lt-leb}
 use Rattle.rules.specs.AgeNitrate.{decay}
 use Rattle.reactor.proofs.AgeLimits.{decay-most}
-use Rattle.reactor.proofs.Limits.{limited}
+use Rattle.rules.proofs.Quotients.{limited}
 use Rattle.reactor.proofs.age.decay.Statement.{statement}
 use Rattle.reactor.proofs.age.decay.Tie as tie
 

@@ -4,7 +4,7 @@ use native.Mathlib.Omega.{arith}
 use mathlib.Core.Path.{refl}
 use Rattle.rules.specs.AgeNitrate.{capacityUptake}
 use Rattle.reactor.proofs.NitrateLimits.{capacity-uptake-most}
-use Rattle.reactor.proofs.Limits.{limited}
+use Rattle.rules.proofs.Quotients.{limited}
 use Rattle.reactor.proofs.nitrate.capacity_uptake.Statement.{statement}
 use Rattle.reactor.proofs.nitrate.capacity_uptake.Tie as tie
 

@@ -3,7 +3,7 @@ use borrow.Author.Needs.{needs}
 use mathlib.Core.Path.{refl}
 use Rattle.rules.specs.ReactorSteps.{biomassDecay}
 use Rattle.reactor.proofs.SludgeLimits.{biomass-decay-most}
-use Rattle.reactor.proofs.Limits.{limited}
+use Rattle.rules.proofs.Quotients.{limited}
 use Rattle.reactor.proofs.sludge.biomass_decay.Statement.{statement}
 use Rattle.reactor.proofs.sludge.biomass_decay.Tie as tie
 

@@ -7,7 +7,7 @@ use Rattle.reactor.proofs.SludgeLimits.{mass-product}
 use Rattle.reactor.proofs.sludge.sludge_mass.Statement.{statement}
 use Rattle.reactor.proofs.sludge.sludge_mass.Tie as tie
 
-product : (c : tie.Start) → c .args .age * c .args .sludge ≤ 14_000_000_000_000
+product : (c : tie.Start) → c .args .age * c .args .sludge ≤ 30_000_000_000_000
 product c = mass-product (c .args .age) (c .args .sludge) (search needs) (search needs)
 
 mul-round-up : tie.Need-mul-round-up

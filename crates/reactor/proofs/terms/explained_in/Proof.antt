@@ -11,8 +11,8 @@ returns : tie.Need-returns
 unfolding entryExplained
 returns c = rw (le-leb (c .before .args .count) (c .before .args .i) (c .if1 .taken))
 
-add-t13 : tie.Need-add-t13
-add-t13 c =
+add-t14 : tie.Need-add-t14
+add-t14 c =
     let start = c .before .before .before .before .before .before in
     omega (arith, c .before .season-removes .ensures .1, start .pre .1 .byDose)
 
@@ -41,5 +41,5 @@ explained-in-spec =
     (λ c κs. search needs)
     (λ c κs. search needs)
     (λ c κs. search needs)
-    add-t13
+    add-t14
     returns-2)

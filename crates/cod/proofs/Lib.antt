@@ -1,0 +1,2 @@
+-- Limits of the figures from COD.
+pub mod Limits
