@@ -1,14 +1,15 @@
 /*
  * Pewgull: dimensioning of single-stage activated sludge plants with nitrogen
- * removal. Six calls, for x86-64 and its C calling convention (System V).
+ * removal. Eight calls, for x86-64 and its C calling convention (System V).
  *
  * Each call takes the bytes of a request, or of a day log, writes on a page
  * that the caller lends, stores the number of bytes written in *written, and
  * gives a number. Later bytes of the page stay unchanged. No call allocates
  * memory, keeps anything between calls, or reads or writes anything else:
  * several threads may call at once, each with memory of its own. A choice
- * takes 16 kB of stack, the other calls 3 kB. The archive needs memcpy and
- * memset, and nothing more.
+ * takes 16 kB of stack, a works 21 kB, a line of a works 17 kB; examining,
+ * explaining, a census, a load and a target take 3 kB. The archive needs
+ * memcpy and memset, and nothing more.
  *
  * What the caller sees to
  *   - request points to request_length readable bytes, log to log_length;
@@ -53,7 +54,9 @@
  *   30     120..123   number of terms of the consent, 0..4
  *   31..54 124..219   four entries for terms, of six words each
  *   55     220..223   way of sludge and oxygen: 0 bod, 1 cod
- *                     A request to choose or for a census ends here.
+ *                     A request to choose or for a census ends here; one for
+ *                     a works or for a line goes on in words of its own (see
+ *                     pewgull_works).
  *   56     224..227   fraction, 200..500 thousandths
  *   57     228..231   return ratio, 30..75 (vertical flow 30..100) hundredths
  *   58     232..235   thickening time, 20..25 tenths of an hour
@@ -117,6 +120,8 @@ extern "C" {
 #define PEWGULL_EXAMINE_LENGTH 236
 #define PEWGULL_EXPLAIN_LENGTH 236
 #define PEWGULL_TARGET_LENGTH 112
+#define PEWGULL_WORKS_LENGTH 260
+#define PEWGULL_LINE_LENGTH 264
 
 /* A page of this length takes every listing. */
 #define PEWGULL_PAGE_LENGTH 512
@@ -133,9 +138,12 @@ extern "C" {
 /* Bytes that pewgull_target writes, and the least length of its page. */
 #define PEWGULL_TARGET_PAGE 8
 
+/* Bytes that pewgull_works writes, and the least length of its page. */
+#define PEWGULL_WORKS_PAGE 1024
+
 /* Numbers that the calls give. */
-#define PEWGULL_SHEET 0          /* a sheet, figures, counts, a load or a target */
-#define PEWGULL_PLANT_DATA 1     /* a plant or site figure outside its range */
+#define PEWGULL_SHEET 0          /* a sheet, figures, counts, a load, a target or a works */
+#define PEWGULL_PLANT_DATA 1     /* a plant or site figure outside its range, or a line's 0 */
 #define PEWGULL_NO_NUMBER 2      /* a reading not finite, or below zero */
 #define PEWGULL_READING_RANGE 3  /* a head count or a result outside its range */
 #define PEWGULL_COD_RATIO 4      /* 5 COD > 11 BOD, where the way is bod */
@@ -152,6 +160,7 @@ extern "C" {
 #define PEWGULL_NITRIFICATION 15 /* nitrification lost in a term */
 #define PEWGULL_TERM_NITRATE 16  /* the nitrate is not covered in a term */
 #define PEWGULL_BULKING 17       /* bulking sludge: a sludge volume index of 181..200 l/kg */
+#define PEWGULL_LINES 18         /* number of lines or shares wrong, or no such line */
 #define PEWGULL_BAD_LENGTH 101   /* request of another length: nothing written */
 #define PEWGULL_BAD_VERSION 102  /* request of another version, which is tested first: nothing written */
 #define PEWGULL_BAD_KIND 103     /* an unknown kind in a request: nothing written */
@@ -303,6 +312,69 @@ uint32_t pewgull_load(const uint8_t *log, size_t log_length,
 uint32_t pewgull_target(const uint8_t *request, size_t request_length,
                         uint8_t *page, size_t page_length,
                         uint64_t *written);
+
+/*
+ * Chooses for each line of a works that is built in several lines side by
+ * side, and adds up. The request has PEWGULL_WORKS_LENGTH bytes:
+ *
+ *   word   bytes      what
+ *   0..55  0..223     the data of the whole works, as for a choice
+ *   56     224..227   number of lines, 2..8
+ *   57..64 228..259   eight entries for the lines' shares, thousandths of the
+ *                     whole, each at least 1, which add up to 1000; entries
+ *                     past the number of lines are not looked at
+ *
+ * A line is a plant of its own. Its daily flow, wet weather flow and site
+ * surface are its part of the whole works': up to each line the shares are
+ * added up, down(whole * shares / 1000) is taken of the sum, and the line's
+ * part is that less the one before it, so that the parts add up to the whole.
+ * All else is the whole works', the load and the concentrations too: head
+ * counts are turned into concentrations on the whole flow.
+ *
+ * Gives 0 and writes PEWGULL_WORKS_PAGE bytes, 128 64-bit unsigned numbers,
+ * little-endian. The first eight are the sums over the lines, of what the
+ * listing calls so:
+ *
+ *   bytes    sum
+ *   0..7     sludge, g/d
+ *   8..15    mass, kg
+ *   16..23   surface, m2
+ *   24..31   reactor, m3
+ *   32..39   settling, m3
+ *   40..47   total, m3
+ *   48..55   oxygen, g/h
+ *   56..63   transfer, g/h
+ *
+ * Then the sheet of each of eight lines, from byte 64, 184, 304, 424, 544,
+ * 664, 784 and 904 on: its fifteen figures in the order of the listing, the
+ * fraction first; zeros past the number of lines.
+ *
+ * Gives 18 where the number of lines or a share is wrong, before any of the
+ * data are looked at; else 1, 17, 2 to 4 or 14 where the data of the whole
+ * works get it; else the number of the first line that is refused, 1 where its
+ * daily flow, wet weather flow or surface comes out 0, 5 where it has no
+ * design. Then it writes 1024 bytes of zeros. Gives 11 for a page of fewer
+ * than 1024 bytes, or 101 to 103, and writes nothing.
+ */
+uint32_t pewgull_works(const uint8_t *request, size_t request_length,
+                       uint8_t *page, size_t page_length,
+                       uint64_t *written);
+
+/*
+ * Chooses for one line of a works, whatever the other lines get: it tells why
+ * a works is refused. The request has PEWGULL_LINE_LENGTH bytes:
+ *
+ *   word   bytes      what
+ *   0..64  0..259     the works, as above
+ *   65     260..263   number of the line, counted from 1
+ *
+ * Gives 0 and writes the listing of the line's sheet, or gives 18, also for a
+ * line 0 or past the number of lines, 1, 17, 2 to 4, 14 or 5 and writes the
+ * refusal; the rest as for a choice.
+ */
+uint32_t pewgull_line(const uint8_t *request, size_t request_length,
+                      uint8_t *page, size_t page_length,
+                      uint64_t *written);
 
 #ifdef __cplusplus
 }

@@ -8,7 +8,7 @@ use rules::Way;
 ghost use mathlib.Core.Path.{_≡_};
 ghost use Prim.Native.Nat.{_-_, _*_, _≤_};
 ghost use Rattle.rules.specs.Rounding.{up};
-ghost use Rattle.rules.specs.Limits.{mostNitrogen};
+ghost use Rattle.rules.specs.Limits.{mostNitrogen, mostOxygen};
 ghost use Rattle.rules.specs.AerationSteps.{aerationUptake, carbonOxygen, carbonOxygenIn, nitrificationOxygen, denitrifiedByBod, savedOxygen, hourlyOxygen, oxygenTransfer, pausedTransfer, transferOf, recirculation, aerationOf};
 ghost use Rattle.rules.specs.Ranges.{Between, GridFraction, PlantRanges, ConcentrationRanges, ReactorBounds};
 
@@ -69,7 +69,7 @@ fn saved_oxygen(flow: u64, denitrified: u64) -> u64
 // Hourly oxygen, g/h: the larger of the carbon peak and the nitrogen peak.
 fn hourly_oxygen(net: u64, nitrification: u64, carbon_peak: u64, nitrogen_peak: u64) -> u64
     requires { ⌜ (net ≤ 880_000_000) × (nitrification ≤ 430_000_000) × («carbon_peak» ≤ 300) × («nitrogen_peak» ≤ 300) ⌝ }
-    ensures { λ r. ⌜ (r ≡ hourlyOxygen net nitrification «carbon_peak» «nitrogen_peak») × (r ≤ 164_000_000) ⌝ }
+    ensures { λ r. ⌜ (r ≡ hourlyOxygen net nitrification «carbon_peak» «nitrogen_peak») × (r ≤ mostOxygen) ⌝ }
 {
     rounding::larger(
         rounding::round_up(carbon_peak * net + 100 * nitrification, 2400),
@@ -79,7 +79,7 @@ fn hourly_oxygen(net: u64, nitrification: u64, carbon_peak: u64, nitrogen_peak: 
 
 // Oxygen transfer, g/h.
 fn oxygen_transfer(saturation: u64, hourly: u64) -> u64
-    requires { ⌜ Between 6_000 15_000 saturation × (hourly ≤ 164_000_000) ⌝ }
+    requires { ⌜ Between 6_000 15_000 saturation × (hourly ≤ mostOxygen) ⌝ }
     ensures { λ r. ⌜ r ≡ oxygenTransfer saturation hourly ⌝ }
 {
     rounding::round_up(saturation * hourly, saturation - 2_000)
@@ -87,7 +87,7 @@ fn oxygen_transfer(saturation: u64, hourly: u64) -> u64
 
 // The same with blowers that stand still for a part of each cycle.
 fn paused_transfer(saturation: u64, fraction: u64, hourly: u64) -> u64
-    requires { ⌜ Between 6_000 15_000 saturation × GridFraction fraction × (hourly ≤ 164_000_000) ⌝ }
+    requires { ⌜ Between 6_000 15_000 saturation × GridFraction fraction × (hourly ≤ mostOxygen) ⌝ }
     ensures { λ r. ⌜ r ≡ pausedTransfer saturation fraction hourly ⌝ }
 {
     rounding::round_up(
@@ -98,7 +98,7 @@ fn paused_transfer(saturation: u64, fraction: u64, hourly: u64) -> u64
 
 // Oxygen transfer of a process: the intermittent one pauses.
 fn transfer(process: Process, saturation: u64, fraction: u64, hourly: u64) -> u64
-    requires { ⌜ Between 6_000 15_000 saturation × GridFraction fraction × (hourly ≤ 164_000_000) ⌝ }
+    requires { ⌜ Between 6_000 15_000 saturation × GridFraction fraction × (hourly ≤ mostOxygen) ⌝ }
     ensures { λ r. ⌜ r ≡ transferOf process saturation fraction hourly ⌝ }
 {
     match process {

@@ -1,6 +1,5 @@
 -- Laws of tallies, the census out of two of them, worked cases, and what the census shuts out.
 pub mod Tallying
-pub mod Filling
 pub mod Products
 pub mod WorkedCensus
 pub mod Refuted

@@ -112,4 +112,4 @@ module _ (p : Plant) (x : Concentrations) where
       → Tally (fractionCount p x fractions) fraction
       → Tally (tankCount p (ratios (p .tank)) times) tank
       → valuesFrom 0 answerNumbers (pairs fraction tank (ratios (p .tank) * times)) ≡ valuesFrom 0 answerNumbers (counted p x)
-  pairs-census fraction tank f t = values-same answerNumbers _ _ (pairs-counted fraction tank f t)
+  pairs-census fraction tank f t = values-same 0 answerNumbers _ _ (pairs-counted fraction tank f t)

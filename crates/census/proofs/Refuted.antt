@@ -30,7 +30,7 @@ accepted p r l (inl c) = (
   c .kept,
   λ k b.
       let here : 0 + k ≡ k = omega arith in
-      ap (λ (m : List ℕ). at m k) (c .values) ∙ (values-at 0 answerNumbers (counted p (valuesOf p r)) k b ∙ ap (counted p (valuesOf p r)) here),
+      ap (λ (m : List ℕ). at m k) (c .values) ∙ (values-at 0 0 answerNumbers (counted p (valuesOf p r)) k b ∙ ap (counted p (valuesOf p r)) here),
 )
 accepted p r l (inr c) = let b = refusal-number-between (c .refusal) in absurd (omega (arith, c .numbered))
 

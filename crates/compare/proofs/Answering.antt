@@ -13,7 +13,7 @@ use Rattle.request.specs.Frames.{candidateWords}
 use Rattle.request.specs.declared.Data.{Data}
 use Rattle.request.specs.declared.Decoded.{Decoded}
 use Rattle.listing.proofs.Outcomes.{writing-fits, writing-long}
-use Rattle.interface.specs.Calls.{Outcome, outcome, putOn, malformed, onData, examinedAt, examined, ChoosingData}
+use Rattle.interface.specs.Calls.{Outcome, outcome, putOn, malformed, onData, examinedAt, examined, answered, Answering, ChosenFor}
 use Rattle.compare.specs.Records.{Call, Answers}
 use Rattle.compare.specs.declared.Operation.{Operation}
 
@@ -33,7 +33,7 @@ unfolding onData malformed
 data-within answer page (Decoded.Malformed fault) each = omega arith
 data-within answer page (Decoded.Data x) each = each x
 
-choosing-within : (page : List ℕ) (o : Outcome) (d : Decoded) → ChoosingData page o d → o .written ≤ length page
+choosing-within : (page : List ℕ) (o : Outcome) (d : Decoded) → Answering ChosenFor answered page o d → o .written ≤ length page
 unfolding malformed
 choosing-within page o (Decoded.Malformed fault) e = rw e (omega arith)
 choosing-within page o (Decoded.Data x) (a, c, e) = rw e (put-within _ _ page)

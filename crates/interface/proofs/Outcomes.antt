@@ -6,7 +6,6 @@ use native.Mathlib.Omega.{arith}
 use lib.ListN.{length, drop}
 use lib.Seq.{sets}
 use Rattle.rules.specs.Answers.{refusalNumber, answerNumber, writtenCount}
-use Rattle.rules.specs.Choosing.{Chosen}
 use Rattle.rules.specs.Listing.{listing, writing}
 use Rattle.rules.specs.declared.Refusal.{Refusal}
 use Rattle.rules.specs.declared.Answer.{Answer}
@@ -20,7 +19,7 @@ use Rattle.request.specs.declared.Data.{Data}
 use Rattle.request.specs.declared.Decoded.{Decoded}
 use Rattle.listing.specs.Pages.{Writes}
 use Rattle.listing.proofs.Outcomes.{writing-fits, page-fits, writing-long, page-long}
-use Rattle.interface.specs.Calls.{Outcome, outcome, numberOf, putOn, answered, malformed, onData, ChoosingData}
+use Rattle.interface.specs.Calls.{Outcome, outcome, numberOf, putOn, answered, malformed, onData, Answering}
 
 module _ (answer : Answer) (page after : List ℕ) (w : Written) (done : Writes answer page after w) where
   -- the listing is on the page
@@ -80,11 +79,13 @@ module _ (bytes page : List ℕ) (own : ℕ) (d : Decoded) (decoded : d ≡ deco
   unfolding onData malformed
   request-malformed answer fault number m n = rw (sym decoded ∙ m) (λ i. outcome (n i) page 0)
 
-  pub choosing-malformed :
-      (fault : Fault) (number : ℕ) → d ≡ Decoded.Malformed fault → number ≡ faultNumber fault
-      → ChoosingData page (outcome number page 0) (decode bytes own)
+  pub answering-malformed :
+      {A : Type 0} (keeps : Data → A → Type 0) (put : A → List ℕ → Outcome) (fault : Fault) (number : ℕ)
+      → d ≡ Decoded.Malformed fault
+      → number ≡ faultNumber fault
+      → Answering keeps put page (outcome number page 0) (decode bytes own)
   unfolding malformed
-  choosing-malformed fault number m n = rw (sym decoded ∙ m) (λ i. outcome (n i) page 0)
+  answering-malformed keeps put fault number m n = rw (sym decoded ∙ m) (λ i. outcome (n i) page 0)
 
   -- one that holds data, and they are answered
   pub request-answered :
@@ -93,7 +94,10 @@ module _ (bytes page : List ℕ) (own : ℕ) (d : Decoded) (decoded : d ≡ deco
   unfolding onData
   request-answered answer x r m o = rw (sym decoded ∙ m) o
 
-  pub choosing-answered :
-      (x : Data) (a : Answer) (r : Outcome) → d ≡ Decoded.Data x → Chosen (x .plant) (x .readings) a → r ≡ answered a page
-      → ChoosingData page r (decode bytes own)
-  choosing-answered x a r m c o = rw (sym decoded ∙ m) (a, c, o)
+  pub answering-answered :
+      {A : Type 0} (keeps : Data → A → Type 0) (put : A → List ℕ → Outcome) (x : Data) (a : A) (r : Outcome)
+      → d ≡ Decoded.Data x
+      → keeps x a
+      → r ≡ put a page
+      → Answering keeps put page r (decode bytes own)
+  answering-answered keeps put x a r m c o = rw (sym decoded ∙ m) (a, c, o)

@@ -8,10 +8,14 @@ use Rattle.rules.specs.Listing.{listing, writing, pageAfter}
 use Rattle.rules.specs.Examining.{examine}
 use Rattle.rules.specs.Choosing.{Chosen}
 use Rattle.rules.specs.Explaining.{explain}
+use Rattle.rules.specs.Lines.{LineAnswered}
+use Rattle.rules.specs.Works.{WorksChosen, worksNumber, worksFigures}
 use Rattle.rules.specs.Census.{census}
 use Rattle.rules.specs.Consent.{targetOn}
 use Rattle.rules.specs.DayLog.{twoWeekLoad, loadNumber, loadOf, loadFigures}
 use Rattle.rules.specs.declared.Candidate.{Candidate}
+use Rattle.rules.specs.declared.Split.{Split}
+use Rattle.rules.specs.declared.Works.{Works}
 use Rattle.rules.specs.declared.Answer.{Answer}
 use Rattle.rules.specs.declared.Census.{Census}
 use Rattle.rules.specs.declared.Written.{Written}
@@ -19,9 +23,9 @@ use Rattle.rules.specs.declared.Explanation.{Explanation}
 use Rattle.rules.specs.declared.LoadAnswer.{LoadAnswer}
 use Rattle.rules.specs.declared.TargetAnswer.{TargetAnswer}
 use Rattle.words.specs.Bytes.{numberBytes}
-use Rattle.request.specs.Layout.{decode, askedCandidate}
+use Rattle.request.specs.Layout.{decode, askedCandidate, askedSplit, askedLine}
 use Rattle.request.specs.ConsentLayout.{decodeInquiry}
-use Rattle.request.specs.Frames.{candidateWords, faultNumber}
+use Rattle.request.specs.Frames.{candidateWords, worksWords, lineWords, faultNumber}
 use Rattle.request.specs.declared.Fault.{Fault}
 use Rattle.request.specs.declared.Data.{Data}
 use Rattle.request.specs.declared.Decoded.{Decoded}
@@ -66,13 +70,35 @@ examinedAt y page x = answered (examine (x .plant) (x .readings) y) page
 unfoldable pub examined : List ℕ → List ℕ → Outcome
 examined bytes page = onData (examinedAt (askedCandidate bytes) page) page (decode bytes candidateWords)
 
--- a request to choose: malformed, or the listing of the answer that keeps demand 3, which is one (`chosen-once`)
-abbrev pub ChoosingData : List ℕ → Outcome → Decoded → Type 0
-ChoosingData page o (Decoded.Malformed fault) = o ≡ malformed fault page
-ChoosingData page o (Decoded.Data x) = (a : Answer) × Chosen (x .plant) (x .readings) a × (o ≡ answered a page)
+-- a request whose answer is told by a property that leaves one: malformed, or an answer that keeps it, put on the page
+abbrev pub Answering : {A : Type 0} → (Data → A → Type 0) → (A → List ℕ → Outcome) → List ℕ → Outcome → Decoded → Type 0
+Answering keeps put page o (Decoded.Malformed fault) = o ≡ malformed fault page
+Answering {A} keeps put page o (Decoded.Data x) = (a : A) × keeps x a × (o ≡ put a page)
+
+-- a request to choose: the listing of the answer that keeps demand 3, which is one (`chosen-once`)
+abbrev pub ChosenFor : Data → Answer → Type 0
+ChosenFor x a = Chosen (x .plant) (x .readings) a
 
 abbrev pub Choosing : List ℕ → List ℕ → Outcome → Type 0
-Choosing bytes page o = ChoosingData page o (decode bytes 0)
+Choosing bytes page o = Answering ChosenFor answered page o (decode bytes 0)
+
+-- a request for a works: the figures of the answer that its lines leave, which is one (`works-once`); its number 0 if it is not
+-- refused
+abbrev pub WorksFor : Split → Data → Works → Type 0
+WorksFor split x w = WorksChosen (x .plant) (x .readings) split w
+
+abbrev pub worksPut : Works → List ℕ → Outcome
+worksPut w page = putOn (worksNumber w) (numberBytes (worksFigures w)) page
+
+abbrev pub WorksAsked : List ℕ → List ℕ → Outcome → Type 0
+WorksAsked bytes page o = Answering (WorksFor (askedSplit bytes)) worksPut page o (decode bytes worksWords)
+
+-- a request for one line of a works: the listing of that line's own answer, which is one (`line-once`)
+abbrev pub LineFor : Split → ℕ → Data → Answer → Type 0
+LineFor split number x a = LineAnswered (x .plant) (x .readings) split number a
+
+abbrev pub LineAsked : List ℕ → List ℕ → Outcome → Type 0
+LineAsked bytes page o = Answering (LineFor (askedSplit bytes) (askedLine bytes)) answered page o (decode bytes lineWords)
 
 -- an explanation's figures on a page, its number 0 if it is not refused
 abbrev pub figured : Explanation → List ℕ → Outcome

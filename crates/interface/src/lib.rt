@@ -12,14 +12,20 @@ use rules::TargetAnswer;
 use rules::TermExplained;
 use rules::TwoWeekLoad;
 use rules::Verdict;
+use rules::Works;
 use rules::Written;
 ghost use mathlib.Core.Path.{_≡_};
 ghost use Prim.Native.Nat.{_≤_};
+ghost use lib.ListN.{length};
+ghost use Rattle.rules.specs.Limits.{mostLines};
 ghost use Rattle.rules.specs.Answers.{refusalNumber, answerNumber, verdictNumber, targetNumber, targetValue};
 ghost use Rattle.rules.specs.Explanations.{explanationNumber, explanationFigures};
 ghost use Rattle.rules.specs.DayLog.{loadNumber, loadOf};
 ghost use Rattle.words.specs.Bytes.{numberBytes};
-ghost use Rattle.interface.specs.Calls.{outcome, putOn, answered, examined, Choosing, figured, explained, countsPut, censused, targetPut, targeted, loaded};
+ghost use Rattle.interface.specs.Calls.{outcome, putOn, answered, examined, Choosing, worksPut, WorksAsked, LineAsked, figured, explained, countsPut, censused, targetPut, targeted, loaded};
+
+// How many figures a works has: eight sums, and fifteen for each of eight lines.
+const WORKS_FIGURES: usize = 128;
 
 // The paper's number of a refusal.
 fn refusal_number(refusal: Refusal) -> u32
@@ -88,6 +94,57 @@ pub extern "C" fn pewgull_choose(request: &[u8], page: &mut [u8], written: &mut 
             let plant = data.plant;
             let readings = data.readings;
             put(pewgull::choose(plant, readings), page, written)
+        }
+    }
+}
+
+// Writes the figures of a works on the page, and gives its number.
+fn put_works(works: Works, page: &mut [u8], written: &mut u64) -> u32
+    requires { ⌜ length (works .sheets) ≡ mostLines ⌝ }
+    ensures { λ r. ⌜ outcome r (now (page .exit)) (now (written .exit)) ≡ worksPut works (now (page .entry)) ⌝ }
+{
+    let verdict = works.verdict;
+    let number = verdict_number(verdict) as u32;
+    let mut figures = [0u64; WORKS_FIGURES];
+    works::figures(works, &mut figures);
+    put_figures(number, &figures, page, written)
+}
+
+// Chooses for every line of the works of a request. A malformed request is answered by 101 to 103, and nothing is written.
+#[no_mangle]
+pub extern "C" fn pewgull_works(request: &[u8], page: &mut [u8], written: &mut u64) -> u32
+    ensures { λ r. ⌜ WorksAsked (now (request .entry)) (now (page .entry)) (outcome r (now (page .exit)) (now (written .exit))) ⌝ }
+{
+    match request::decode(request, request::WORKS_WORDS) {
+        Decoded::Malformed(fault) => {
+            *written = 0;
+            request::fault_number(fault)
+        }
+        Decoded::Data(data) => {
+            let plant = data.plant;
+            let readings = data.readings;
+            let split = request::split(request);
+            put_works(pewgull::works(plant, readings, split), page, written)
+        }
+    }
+}
+
+// Gives one line's own answer for the works of a request. A malformed request is answered by 101 to 103, and nothing is written.
+#[no_mangle]
+pub extern "C" fn pewgull_line(request: &[u8], page: &mut [u8], written: &mut u64) -> u32
+    ensures { λ r. ⌜ LineAsked (now (request .entry)) (now (page .entry)) (outcome r (now (page .exit)) (now (written .exit))) ⌝ }
+{
+    match request::decode(request, request::LINE_WORDS) {
+        Decoded::Malformed(fault) => {
+            *written = 0;
+            request::fault_number(fault)
+        }
+        Decoded::Data(data) => {
+            let plant = data.plant;
+            let readings = data.readings;
+            let split = request::split(request);
+            let number = request::line_number(request);
+            put(pewgull::line(plant, readings, split, number), page, written)
         }
     }
 }

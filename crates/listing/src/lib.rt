@@ -34,11 +34,12 @@ pub fn refusal_number(refusal: Refusal) -> u64
         Refusal::Nitrification => 15,
         Refusal::TermNitrate => 16,
         Refusal::Bulking => 17,
+        Refusal::Lines => 18,
     }
 }
 
 // The fifteen figures of a sheet, in the listing's order.
-fn figures(sheet: Sheet) -> [u64; 15]
+pub fn figures(sheet: Sheet) -> [u64; 15]
     ensures { λ r. ⌜ r ≡ sheetFigures sheet ⌝ }
 {
     [

@@ -9,7 +9,9 @@ use rules::Explanation;
 use rules::LoadAnswer;
 use rules::Plant;
 use rules::Readings;
+use rules::Split;
 use rules::TargetAnswer;
+use rules::Works;
 use rules::Written;
 ghost use mathlib.Core.Path.{_≡_};
 ghost use Rattle.rules.specs.Examining.{examine};
@@ -24,6 +26,9 @@ ghost use Rattle.rules.specs.DayLog.{twoWeekLoad, loadNumber, loadOf};
 ghost use Rattle.rules.specs.DayLogOutcome.{LoadOutcome};
 ghost use Rattle.rules.specs.Outcomes.{Examined, ChosenOutcome, ExplainedOutcome, WritingOutcome};
 ghost use Rattle.rules.specs.TwoColumns.{TwoColumns};
+ghost use Rattle.rules.specs.Lines.{LineAnswered};
+ghost use Rattle.rules.specs.Works.{WorksChosen, worksNumber};
+ghost use Rattle.rules.specs.WorksOutcome.{WorksOutcome, LineOutcome, WorksColumns, LineColumns};
 ghost use Rattle.listing.specs.Pages.{Writes};
 
 // Demands 1 and 2: the complete sheet of a candidate, or the one refusal that is due.
@@ -42,6 +47,25 @@ pub fn choose(plant: Plant, readings: Readings) -> Answer
     ensures numbered { λ r. ⌜ ChosenOutcome plant readings (answerNumber r) (answerSheet r) ⌝ }
 {
     choosing::choose(plant, readings)
+}
+
+// A works in several lines: every line's least design and their sums, or the refusal of the whole data or of the first refused
+// line.
+pub fn works(plant: Plant, readings: Readings, split: Split) -> Works
+    ensures { λ r. ⌜ WorksChosen plant readings split r ⌝ }
+    ensures columns { λ r. ⌜ WorksColumns plant readings split r ⌝ }
+    ensures numbered { λ r. ⌜ WorksOutcome plant readings split (worksNumber r) r ⌝ }
+{
+    works::works(plant, readings, split)
+}
+
+// The answer of one line of a works by its number from 1, whatever the other lines get.
+pub fn line(plant: Plant, readings: Readings, split: Split, number: u32) -> Answer
+    ensures { λ r. ⌜ LineAnswered plant readings split number r ⌝ }
+    ensures columns { λ r. ⌜ LineColumns plant readings split number r ⌝ }
+    ensures numbered { λ r. ⌜ LineOutcome plant readings split number (answerNumber r) (answerSheet r) ⌝ }
+{
+    works::line(plant, readings, split, number)
 }
 
 // The figures that explain a candidate, whatever the rules of fraction and tank say of it.

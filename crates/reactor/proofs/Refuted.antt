@@ -1,10 +1,11 @@
--- Mistakes that change a step's shape, so that no edit of one line makes them: each gives another figure than the
--- definition on some plant, by computation. Assumes nothing.
+-- Mistakes that change a step's shape, so that no edit of one line makes them, and steps moved by one: each gives another figure than
+-- the definition on some plant, by computation. Assumes nothing.
 use Prim.Native.Nat.{ℕ, _+_, _-_, _*_, _^_}
 use mathlib.Core.Path.{_≡_, refl}
 use borrow.Author.Tests.{eqb-false}
 use Rattle.rules.specs.Rounding.{down, up}
 use Rattle.rules.specs.AgeNitrate.{
+  safetyFactor,
   perDegree,
   growth,
   decay,
@@ -17,8 +18,9 @@ use Rattle.rules.specs.AgeNitrate.{
   uptakeCapacity,
   capacity,
 }
-use Rattle.rules.specs.ReactorSteps.{biomassDecay, carbonSludge, phosphorusSludge, sludgeMass}
+use Rattle.rules.specs.ReactorSteps.{biomassDecay, carbonSludge, phosphorusSludge, sludgeMass, reactorSolids}
 use Rattle.rules.specs.declared.Process.{Process}
+use Rattle.rules.specs.declared.Steps.{Steps}
 
 abbrev Differ : ℕ → ℕ → Type 0
 Differ right wrong = right ≡ wrong → ⊥
@@ -46,6 +48,10 @@ pub record Refuted : Type 0 where
       1_000_000)
   -- the rise above 12 degrees applied to a process that denitrifies by its oxygen uptake
   pub rise-everywhere : Differ (capacity Process.Simultaneous 500 20 9_524) (risenCapacity (uptakeCapacity 500 9_524) 20)
+  -- the rise from 14 degrees on; the safety factor of 6,000 at 5,999; three steps with the solids of two
+  pub rise-from-14 : Differ (risenCapacity 130 13) (risenCapacity 130 12)
+  pub factor-early : Differ (safetyFactor 5_999) (safetyFactor 6_000)
+  pub three-as-two : Differ (reactorSolids (Process.StepFeed Steps.Three) 3_779) (reactorSolids (Process.StepFeed Steps.Two) 3_779)
 
 pub refuted : Refuted
 unfolding
@@ -64,6 +70,8 @@ unfolding
     carbonSludge
     phosphorusSludge
     sludgeMass
+    safetyFactor
+    reactorSolids
 refuted =
     record {
       aerobic-down = eqb-false _ _ refl;
@@ -79,4 +87,7 @@ refuted =
       rise-merged = eqb-false _ _ refl;
       sludge-merged = eqb-false _ _ refl;
       rise-everywhere = eqb-false _ _ refl;
+      rise-from-14 = eqb-false _ _ refl;
+      factor-early = eqb-false _ _ refl;
+      three-as-two = eqb-false _ _ refl;
     }

@@ -13,11 +13,12 @@ use Rattle.rules.specs.WithoutTerms.{withConsent}
 use Rattle.rules.specs.WithoutWay.{withWay}
 use Rattle.rules.specs.declared.Consent.{Consent}
 use Rattle.rules.specs.declared.Way.{Way}
+use Rattle.rules.specs.declared.Split.{Split}
 use Rattle.request.specs.Kinds.{processOf, precipitantOf, tankFlowOf, removalOf, primarySettlingOf, wayOf, readingOf}
 use Rattle.words.specs.Bytes.{word, wordsFrom}
-use Rattle.request.specs.Layout.{kindsKnown, decodeWords, decode, askedCandidate}
+use Rattle.request.specs.Layout.{kindsKnown, decodeWords, decode, askedCandidate, askedSplit, askedLine}
 use Rattle.request.specs.ConsentLayout.{decodeInquiry}
-use Rattle.request.specs.Frames.{plantWords, wayWord, candidateWords, frameOf}
+use Rattle.request.specs.Frames.{plantWords, wayWord, candidateWords, worksWords, lineWords, frameOf}
 use Rattle.request.specs.declared.Fault.{Fault}
 use Rattle.request.specs.declared.Decoded.{Decoded}
 use Rattle.request.specs.declared.DecodedInquiry.{DecodedInquiry}
@@ -107,6 +108,27 @@ pub asked :
 unfolding consentA frameOf decodeInquiry word
 asked = refl
 
+-- a works of three lines with the shares 400, 350 and 250, and its second line
+unfoldable pub worksA : List ℕ
+worksA =
+    dataA
+    ++ (3 ∷ 0 ∷ 0 ∷ 0 ∷ 0x90 ∷ 0x01 ∷ 0 ∷ 0 ∷ 0x5e ∷ 0x01 ∷ 0 ∷ 0 ∷ 0xfa ∷ 0 ∷ 0 ∷ 0 ∷ replicate 20 0)
+
+unfoldable pub lineA : List ℕ
+lineA = worksA ++ (2 ∷ 0 ∷ 0 ∷ 0 ∷ [])
+
+abbrev splitA : Split
+splitA = record { count = 3; shares = 400 ∷ 350 ∷ 250 ∷ 0 ∷ 0 ∷ 0 ∷ 0 ∷ 0 ∷ [] }
+
+pub lined :
+    (decode worksA worksWords ≡ Decoded.Data (record { plant = caseA; readings = readingsA }))
+    × (decode lineA lineWords ≡ Decoded.Data (record { plant = caseA; readings = readingsA }))
+    × (askedSplit worksA ≡ splitA)
+    × (askedSplit lineA ≡ splitA)
+    × (askedLine lineA ≡ 2)
+unfolding plantA dataA worksA lineA frameOf decode decodeWords wordsFrom word processOf precipitantOf tankFlowOf removalOf primarySettlingOf wayOf readingOf ofBits caseA variant readingsA readingsWith f32 round
+lined = (refl, refl, refl, refl, refl)
+
 -- malformed in more than one way, the first test decides: a request of version 3 as it was, with a word less, whatever its kinds;
 -- a byte too many, whatever its kinds; and no first word at all
 pub earlier-version : decode (take 220 (set (set dataA 0 3) 56 5)) 0 ≡ Decoded.Malformed Fault.Version
@@ -146,6 +168,10 @@ known-kinds = ((refl, refl), (refl, refl), (refl, refl), (refl, refl), (refl, re
 
 -- each call takes its own length alone
 pub own-words :
-    (decode requestA 0 ≡ Decoded.Malformed Fault.Length) × (decode dataA candidateWords ≡ Decoded.Malformed Fault.Length)
-unfolding plantA dataA requestA frameOf decode word
-own-words = (refl, refl)
+    (decode requestA 0 ≡ Decoded.Malformed Fault.Length)
+    × (decode dataA candidateWords ≡ Decoded.Malformed Fault.Length)
+    × (decode dataA worksWords ≡ Decoded.Malformed Fault.Length)
+    × (decode worksA lineWords ≡ Decoded.Malformed Fault.Length)
+    × (decode lineA worksWords ≡ Decoded.Malformed Fault.Length)
+unfolding plantA dataA requestA worksA lineA frameOf decode word
+own-words = (refl, refl, refl, refl, refl)

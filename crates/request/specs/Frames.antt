@@ -6,6 +6,7 @@ use mathlib.Core.List.{List}
 use lib.Dec.{leb, eqb}
 use lib.ListN.{length}
 use Rattle.words.specs.Bytes.{word}
+use Rattle.rules.specs.Limits.{mostLines}
 use Rattle.request.specs.declared.Fault.{Fault}
 use Rattle.request.specs.declared.Frame.{Frame}
 
@@ -14,7 +15,7 @@ abbrev pub version : ℕ
 version = 4
 
 -- the words before the consent's, a term's, the consent's, the place of the way's, all of the data's, those of a request for the
--- target of a date, and the own words of a call that is asked of a candidate
+-- target of a date, and the own words of a call that is asked of a candidate, of a works, and of a line of a works
 abbrev pub plantWords : ℕ
 plantWords = 30
 
@@ -35,6 +36,12 @@ inquiryWords = 1 + (consentWords + 2)
 
 abbrev pub candidateWords : ℕ
 candidateWords = 3
+
+abbrev pub worksWords : ℕ
+worksWords = 1 + mostLines
+
+abbrev pub lineWords : ℕ
+lineWords = worksWords + 1
 
 -- the bytes of a request with so many own words, and of the longest
 abbrev pub requestLength : ℕ → ℕ

@@ -6,7 +6,8 @@ use mathlib.Core.List.{List}
 use lib.Dec.{leb}
 use lib.ListN.{getD}
 use Rattle.words.specs.Bytes.{word, wordsFrom}
-use Rattle.request.specs.Frames.{plantWords, wayWord, dataWords, frameOf}
+use Rattle.rules.specs.Limits.{mostLines}
+use Rattle.request.specs.Frames.{plantWords, wayWord, dataWords, worksWords, frameOf}
 use Rattle.request.specs.ConsentLayout.{consentOf}
 use Rattle.request.specs.Kinds.{processOf, precipitantOf, tankFlowOf, removalOf, primarySettlingOf, wayOf, readingOf}
 use Rattle.rules.specs.declared.Process.{Process}
@@ -19,6 +20,7 @@ use Rattle.rules.specs.declared.Way.{Way}
 use Rattle.rules.specs.declared.Plant.{Plant}
 use Rattle.rules.specs.declared.Readings.{Readings}
 use Rattle.rules.specs.declared.Candidate.{Candidate}
+use Rattle.rules.specs.declared.Split.{Split}
 use Rattle.request.specs.declared.Fault.{Fault}
 use Rattle.request.specs.declared.Frame.{Frame}
 use Rattle.request.specs.declared.Decoded.{Decoded}
@@ -112,3 +114,11 @@ askedCandidate bytes =
       «return_ratio» = word bytes (dataWords + 1);
       thickening = word bytes (dataWords + 2);
     }
+
+-- how a works is split: the first nine of the call's own words, the number of lines and eight shares
+abbrev pub askedSplit : List ℕ → Split
+askedSplit bytes = record { count = word bytes dataWords; shares = wordsFrom bytes (dataWords + 1) mostLines }
+
+-- the number of the line that is asked for: the word after those
+abbrev pub askedLine : List ℕ → ℕ
+askedLine bytes = word bytes (dataWords + worksWords)

@@ -9,6 +9,7 @@ use rules::Process;
 use rules::Reading;
 use rules::Readings;
 use rules::Removal;
+use rules::Split;
 use rules::Steps;
 use rules::TankFlow;
 use rules::Term;
@@ -17,8 +18,8 @@ ghost use mathlib.Core.Path.{_≡_};
 ghost use Prim.Native.Nat.{_+_, _*_, _≤_};
 ghost use lib.ListN.{length};
 ghost use Rattle.request.specs.Kinds.{processOf, precipitantOf, tankFlowOf, removalOf, primarySettlingOf, wayOf, readingOf};
-ghost use Rattle.request.specs.Frames.{plantWords, termWords, consentWords, wayWord, dataWords, requestLength, longestRequest, candidateWords};
-ghost use Rattle.request.specs.Layout.{plantOf, readingsOf, kindsKnown, decodeWords, decode, askedCandidate};
+ghost use Rattle.request.specs.Frames.{plantWords, termWords, consentWords, dataWords, requestLength, longestRequest, candidateWords, worksWords, lineWords};
+ghost use Rattle.request.specs.Layout.{plantOf, readingsOf, kindsKnown, decodeWords, decode, askedCandidate, askedSplit, askedLine};
 ghost use Rattle.request.specs.ConsentLayout.{dateOf, termOf, consentOf, decodeInquiry};
 ghost use Rattle.request.specs.Frames.{frameOf, faultNumber};
 
@@ -77,6 +78,12 @@ const INQUIRY_WORDS: usize = 28;
 
 // The own words of a call that is asked of a candidate.
 pub const CANDIDATE_WORDS: usize = 3;
+
+// The own words of a call that is asked of a works: the number of lines and eight shares.
+pub const WORKS_WORDS: usize = 9;
+
+// The own words of a call that is asked of a line of a works: those, and its number.
+pub const LINE_WORDS: usize = 10;
 
 // The bytes of the longest request.
 pub const LONGEST_REQUEST: usize = 4_096;
@@ -329,6 +336,33 @@ pub fn candidate(bytes: &[u8]) -> Candidate
         return_ratio: words::word(bytes, DATA_WORDS + 1),
         thickening: words::word(bytes, DATA_WORDS + 2),
     }
+}
+
+// How a works is split, by the call's own words.
+pub fn split(bytes: &[u8]) -> Split
+    requires { ⌜ requestLength worksWords ≤ length (now bytes) ⌝ }
+    ensures { λ r. ⌜ r ≡ askedSplit (now (bytes .entry)) ⌝ }
+{
+    let count = words::word(bytes, DATA_WORDS);
+    let shares = [
+        words::word(bytes, DATA_WORDS + 1),
+        words::word(bytes, DATA_WORDS + 2),
+        words::word(bytes, DATA_WORDS + 3),
+        words::word(bytes, DATA_WORDS + 4),
+        words::word(bytes, DATA_WORDS + 5),
+        words::word(bytes, DATA_WORDS + 6),
+        words::word(bytes, DATA_WORDS + 7),
+        words::word(bytes, DATA_WORDS + 8),
+    ];
+    Split { count, shares }
+}
+
+// The number of the line that is asked for.
+pub fn line_number(bytes: &[u8]) -> u32
+    requires { ⌜ requestLength lineWords ≤ length (now bytes) ⌝ }
+    ensures { λ r. ⌜ r ≡ askedLine (now (bytes .entry)) ⌝ }
+{
+    words::word(bytes, DATA_WORDS + WORKS_WORDS)
 }
 
 // The number that a malformed request is answered by.

@@ -8,7 +8,7 @@ use Prim.Native.Nat.{ℕ, _≤_}
 use native.Mathlib.Omega.{arith}
 use lib.Dec.{T}
 use lib.Ieee.Fits.{and-l, and-r}
-use Rattle.rules.specs.Rules.{Rule, rule, allKept, verdict, FirstBroken}
+use Rattle.rules.specs.Rules.{Rule, allKept, verdict, FirstBroken}
 use Rattle.rules.specs.PlantData.{plantInRange}
 use Rattle.rules.specs.LabReadings.{resultInRange, headsInRange, readingNoNumber, readingValue, readingInRange}
 use Rattle.rules.specs.Consent.{consentValid}
@@ -42,12 +42,22 @@ unfolding acceptBy
 by-broken Verdict.Kept x n e = absurd (refused-no n x (sym e))
 by-broken (Verdict.Broken m) x n e = cc
 
--- what is accepted breaks none of them, and the concentrations are the readings' values
+-- what any list of rules accepts breaks none of them, with the values that it was given ..
+pub accepted-kept : (l : List Rule) (x y : Concentrations) → acceptBy (verdict l) x ≡ Acceptance.Accepted y → T (allKept l) × (x ≡ y)
+accepted-kept l x y e = let h = by-verdict (verdict l) x y e in (all-kept-verdict l .1 (h .0), h .1)
+
+-- .. and what it refuses with n has n as the first that is broken, and the other way round
+pub refused-broken : (l : List Rule) (x : Concentrations) (n : Refusal) → (acceptBy (verdict l) x ≡ Acceptance.Refused n) ↔ FirstBroken l n
+unfolding acceptBy
+refused-broken l x n = (
+  λ e. broken-verdict l n .1 (by-broken (verdict l) x n e),
+  λ f. ap (λ (v : Verdict). acceptBy v x) (broken-verdict l n .0 f),
+)
+
+-- what is accepted breaks none of the data's rules, and the concentrations are the readings' values
 pub accepted-none-due : (p : Plant) (r : Readings) (x : Concentrations) → accept p r ≡ Acceptance.Accepted x → T (allKept (dataRules p r)) × (valuesOf p r ≡ x)
 unfolding accept
-accepted-none-due p r x e =
-    let h = by-verdict (verdict (dataRules p r)) (valuesOf p r) x e in
-    (all-kept-verdict (dataRules p r) .1 (h .0), h .1)
+accepted-none-due p r x e = accepted-kept (dataRules p r) (valuesOf p r) x e
 
 -- where none of them is broken, the data are accepted
 pub none-due-accepted : (p : Plant) (r : Readings) → T (allKept (dataRules p r)) → accept p r ≡ Acceptance.Accepted (valuesOf p r)
@@ -56,11 +66,8 @@ none-due-accepted p r none = ap (λ (v : Verdict). acceptBy v (valuesOf p r)) (a
 
 -- acceptance refuses with n exactly when n is the first of them that is due
 pub data-refused-when-due : (p : Plant) (r : Readings) (n : Refusal) → (accept p r ≡ Acceptance.Refused n) ↔ FirstBroken (dataRules p r) n
-unfolding accept acceptBy
-data-refused-when-due p r n = (
-  λ e. broken-verdict (dataRules p r) n .1 (by-broken (verdict (dataRules p r)) (valuesOf p r) n e),
-  λ f. ap (λ (v : Verdict). acceptBy v (valuesOf p r)) (broken-verdict (dataRules p r) n .0 f),
-)
+unfolding accept
+data-refused-when-due p r n = refused-broken (dataRules p r) (valuesOf p r) n
 
 -- ---- accepted data are in their ranges
 

@@ -1,6 +1,7 @@
 -- Laws of the definitions, each in one place and cited from everywhere.
 pub mod Quotients
 pub mod SumLaws
+pub mod Filling
 pub mod Tests
 pub mod RangeFacts
 pub mod GridSums
@@ -29,6 +30,10 @@ pub mod TankApart
 pub mod NoDose
 pub mod StepsWithoutDose
 pub mod LargerDose
+pub mod LineLaws
+pub mod WorksLaws
+pub mod WorksOutcomes
+pub mod LineOutcomes
 pub mod ByBod
 pub mod ByCod
 pub mod Numeral

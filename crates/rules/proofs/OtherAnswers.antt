@@ -23,7 +23,7 @@ use Rattle.rules.proofs.Examined.{examine-by-rules}
 use Rattle.rules.proofs.ChosenOnce.{neither-before, same-order}
 
 -- two tests that hold together are one
-same-test : (a b : Bool) → T a ↔ T b → a ≡ b
+pub same-test : (a b : Bool) → T a ↔ T b → a ≡ b
 same-test true true h = refl
 same-test true false h = absurd (h .0 tt)
 same-test false true h = absurd (h .1 tt)

@@ -66,6 +66,7 @@ small n =
       | Refusal.Nitrification ↦ tt
       | Refusal.TermNitrate ↦ tt
       | Refusal.Bulking ↦ tt
+      | Refusal.Lines ↦ tt
     ]
 
 pub refusal-number-between : (n : Refusal) → Between 1 31 (refusalNumber n)

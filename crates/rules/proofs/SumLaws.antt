@@ -15,6 +15,12 @@ pub sum-step : (a n : ℕ) (g : ℕ → ℕ) → sumFrom a (n + 1) g ≡ sumFrom
 unfolding sumFrom
 sum-step a n g = rw (add-one n)
 
+-- a sum from 0 on, with the next summand added
+pub sum-grown : (g : ℕ → ℕ) (i s v : ℕ) → s ≡ sumFrom 0 i g → v ≡ g i → s + v ≡ sumFrom 0 (i + 1) g
+sum-grown g i s v e h =
+    let here : i ≡ 0 + i = omega arith in
+    ap₂ _+_ e (h ∙ ap g here) ∙ sym (sum-step 0 i g)
+
 -- the same, for the number that a loop has come to
 pub sum-next : (a i : ℕ) (g : ℕ → ℕ) → a ≤ i → sumFrom a (i + 1 - a) g ≡ sumFrom a (i - a) g + g i
 sum-next a i g h =
@@ -85,32 +91,39 @@ zero-sum a (suc n) g e i l m = go (eq-or-lt-of-le below) (λ less. zero-sum a n 
 
 -- ---- the values in a list
 
-pub values-length : (a n : ℕ) (g : ℕ → ℕ) → length (valuesFrom a n g) ≡ n
+pub values-length : {A : Type 0} (a n : ℕ) (g : ℕ → A) → length (valuesFrom a n g) ≡ n
 unfolding valuesFrom
 values-length a zero g = refl
 values-length a (suc n) g = ap suc (values-length (a + 1) n g)
 
-pub values-at : (a n : ℕ) (g : ℕ → ℕ) (i : ℕ) → i < n → getD (valuesFrom a n g) i 0 ≡ g (a + i)
+pub values-at : {A : Type 0} (d : A) (a n : ℕ) (g : ℕ → A) (i : ℕ) → i < n → getD (valuesFrom a n g) i d ≡ g (a + i)
 unfolding valuesFrom
-values-at a zero g i l = absurd (omega arith)
-values-at a (suc n) g zero l = let e : a ≡ a + 0 = omega arith in ap g e
-values-at a (suc n) g (suc i) l =
+values-at d a zero g i l = absurd (omega arith)
+values-at d a (suc n) g zero l = let e : a ≡ a + 0 = omega arith in ap g e
+values-at d a (suc n) g (suc i) l =
     let e : a + 1 + i ≡ a + suc i = omega arith in
-    values-at (a + 1) n g i (omega arith) ∙ ap g e
+    values-at d (a + 1) n g i (omega arith) ∙ ap g e
+
+-- past them stands the default
+pub values-past : {A : Type 0} (d : A) (a n : ℕ) (g : ℕ → A) (i : ℕ) → n ≤ i → getD (valuesFrom a n g) i d ≡ d
+unfolding valuesFrom
+values-past d a zero g i l = refl
+values-past d a (suc n) g zero l = absurd (omega arith)
+values-past d a (suc n) g (suc i) l = values-past d (a + 1) n g i (omega arith)
 
 -- a list that holds the values is the list of them
-pub list-of-values : (n : ℕ) (g : ℕ → ℕ) (l : List ℕ) → length l ≡ n → ((i : ℕ) → i < n → getD l i 0 ≡ g i) → l ≡ valuesFrom 0 n g
-list-of-values n g l size holds =
-    ext-getD 0 l (valuesFrom 0 n g) (size ∙ sym (values-length 0 n g))
+pub list-of-values : {A : Type 0} (d : A) (n : ℕ) (g : ℕ → A) (l : List A) → length l ≡ n → ((i : ℕ) → i < n → getD l i d ≡ g i) → l ≡ valuesFrom 0 n g
+list-of-values d n g l size holds =
+    ext-getD d l (valuesFrom 0 n g) (size ∙ sym (values-length 0 n g))
     (λ i m.
     let here : i < n = omega (arith, size) in
     let e : i ≡ 0 + i = omega arith in
-    holds i here ∙ (ap g e ∙ sym (values-at 0 n g i here)))
+    holds i here ∙ (ap g e ∙ sym (values-at d 0 n g i here)))
 
 -- the same values, the same list
-pub values-same : (n : ℕ) (g h : ℕ → ℕ) → ((k : ℕ) → k < n → g k ≡ h k) → valuesFrom 0 n g ≡ valuesFrom 0 n h
-values-same n g h e =
-    list-of-values n h (valuesFrom 0 n g) (values-length 0 n g)
+pub values-same : {A : Type 0} (d : A) (n : ℕ) (g h : ℕ → A) → ((k : ℕ) → k < n → g k ≡ h k) → valuesFrom 0 n g ≡ valuesFrom 0 n h
+values-same d n g h e =
+    list-of-values d n h (valuesFrom 0 n g) (values-length 0 n g)
     (λ i m.
     let here : 0 + i ≡ i = omega arith in
-    values-at 0 n g i m ∙ (ap g here ∙ e i m))
+    values-at d 0 n g i m ∙ (ap g here ∙ e i m))

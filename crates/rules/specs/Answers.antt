@@ -28,6 +28,7 @@ refusalNumber Refusal.Terms = 14
 refusalNumber Refusal.Nitrification = 15
 refusalNumber Refusal.TermNitrate = 16
 refusalNumber Refusal.Bulking = 17
+refusalNumber Refusal.Lines = 18
 
 -- a sheet of zeros
 unfoldable pub emptySheet : Sheet

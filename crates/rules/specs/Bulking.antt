@@ -23,7 +23,7 @@ use Rattle.rules.specs.declared.Explanation.{Explanation}
 
 -- a plant with another sludge volume index
 unfoldable pub withIndex : ℕ → Plant → Plant
-withIndex index p = alteredPlant index (p .dose) (p .consent) (p .way) p
+withIndex index p = alteredPlant (p .flow) (p .«wet_weather_flow») (p .«site_surface») index (p .dose) (p .consent) (p .way) p
 
 -- 1; then 2 and 3 of each reading in turn; then 4; then 14
 unfoldable pub dataRulesWithoutBulking : Plant → Readings → List Rule

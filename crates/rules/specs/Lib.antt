@@ -35,6 +35,9 @@ pub mod Census
 pub mod Bulking
 pub mod WithoutPauses
 pub mod WithoutWay
+pub mod Lines
+pub mod Works
+pub mod WorksOutcome
 pub mod DayLog
 pub mod DayLogOutcome
 pub mod Listing

@@ -32,6 +32,10 @@ mostNitrateTarget = 50_000
 abbrev pub mostTerms : ℕ
 mostTerms = 4
 
+-- the lines of a works
+abbrev pub mostLines : ℕ
+mostLines = 8
+
 -- f, thousandths
 abbrev pub leastFraction : ℕ
 leastFraction = 200
@@ -122,3 +126,11 @@ mostDepth = 20_000
 
 abbrev pub mostSettlingVolume : ℕ
 mostSettlingVolume = 1_400_000
+
+-- hourly oxygen, g/h
+abbrev pub mostOxygen : ℕ
+mostOxygen = 164_000_000
+
+-- every figure of a sheet that a works adds up
+abbrev pub mostFigure : ℕ
+mostFigure = 100_000_000_000

@@ -21,13 +21,13 @@ use Rattle.rules.specs.declared.Refusal.{Refusal}
 use Rattle.rules.specs.declared.Acceptance.{Acceptance}
 use Rattle.rules.specs.declared.Answer.{Answer}
 
--- a plant with another sludge volume index, dose, consent and way
-abbrev pub alteredPlant : ℕ → ℕ → Consent → Way → Plant → Plant
-alteredPlant index dose consent way p =
+-- a plant with another daily flow, wet weather flow and site surface, and another sludge volume index, dose, consent and way
+abbrev pub alteredPlant : ℕ → ℕ → ℕ → ℕ → ℕ → Consent → Way → Plant → Plant
+alteredPlant flow wet surface index dose consent way p =
     record {
       load = p .load;
-      flow = p .flow;
-      «wet_weather_flow» = p .«wet_weather_flow»;
+      flow = flow;
+      «wet_weather_flow» = wet;
       «design_temperature» = p .«design_temperature»;
       «aeration_temperature» = p .«aeration_temperature»;
       «sludge_volume_index» = index;
@@ -36,7 +36,7 @@ alteredPlant index dose consent way p =
       «carbon_peak» = p .«carbon_peak»;
       «nitrogen_peak» = p .«nitrogen_peak»;
       «oxygen_saturation» = p .«oxygen_saturation»;
-      «site_surface» = p .«site_surface»;
+      «site_surface» = surface;
       «site_depth» = p .«site_depth»;
       process = p .process;
       precipitant = p .precipitant;

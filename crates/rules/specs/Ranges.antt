@@ -2,7 +2,7 @@
 -- and of the grid are the tests of 1, 17, 14 and 6, no more and no less (proofs/RangeFacts.antt); accepted concentrations are
 -- in theirs (proofs/AcceptedData.antt). Assumes nothing.
 use Prim.Native.Nat.{ℕ, _≤_}
-use Rattle.rules.specs.Limits.{leastTemperature, leastTermTemperature, mostTemperature, leastIndex, mostIndex, leastNitrateTarget, mostNitrateTarget, leastFraction, mostFraction, leastRatio, mostRatio, leastTime, mostTime, mostAge, mostNitrogen, mostRemoves, mostDose, mostRemovedByDose, mostSludge, mostMass, leastSolids, mostSolids, mostSludgeVolume, mostSurface, leastDepth, mostDepth, mostSettlingVolume}
+use Rattle.rules.specs.Limits.{leastTemperature, leastTermTemperature, mostTemperature, leastIndex, mostIndex, leastNitrateTarget, mostNitrateTarget, leastFraction, mostFraction, leastRatio, mostRatio, leastTime, mostTime, mostAge, mostNitrogen, mostRemoves, mostDose, mostRemovedByDose, mostSludge, mostMass, leastSolids, mostSolids, mostSludgeVolume, mostSurface, leastDepth, mostDepth, mostSettlingVolume, mostFigure}
 use lib.Dec.{T}
 use Rattle.rules.specs.Consent.{consentValid}
 use Rattle.rules.specs.declared.Plant.{Plant}
@@ -10,6 +10,7 @@ use Rattle.rules.specs.declared.Concentrations.{Concentrations}
 use Rattle.rules.specs.declared.Candidate.{Candidate}
 use Rattle.rules.specs.declared.Reactor.{Reactor}
 use Rattle.rules.specs.declared.Settling.{Settling}
+use Rattle.rules.specs.declared.Sheet.{Sheet}
 
 -- n lies in the range low..high, both ends included
 pub record Between (low high n : ℕ) : Type 0 where
@@ -86,3 +87,14 @@ pub record SettlingBounds (s : Settling) : Type 0 where
   pub surface : Between 1 mostSurface (s .surface)
   pub depth : Between leastDepth mostDepth (s .depth)
   pub volume : Between 1 mostSettlingVolume (s .volume)
+
+-- limits of the figures of a sheet that a works adds up
+pub record SheetBounds (s : Sheet) : Type 0 where
+  pub sludge : s .sludge ≤ mostFigure
+  pub mass : s .mass ≤ mostFigure
+  pub surface : s .surface ≤ mostFigure
+  pub reactor : s .reactor ≤ mostFigure
+  pub settling : s .settling ≤ mostFigure
+  pub total : s .total ≤ mostFigure
+  pub oxygen : s .oxygen ≤ mostFigure
+  pub transfer : s .transfer ≤ mostFigure

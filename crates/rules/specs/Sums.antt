@@ -12,6 +12,6 @@ sumFrom first zero g = 0
 sumFrom first (suc n) g = sumFrom first n g + g (first + n)
 
 -- g of the n numbers from first on, in a list
-unfoldable pub valuesFrom : ℕ → ℕ → (ℕ → ℕ) → List ℕ
+unfoldable pub valuesFrom : {A : Type 0} → ℕ → ℕ → (ℕ → A) → List A
 valuesFrom first zero g = []
 valuesFrom first (suc n) g = g first ∷ valuesFrom (first + 1) n g

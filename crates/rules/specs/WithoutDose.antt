@@ -25,7 +25,7 @@ use Rattle.rules.specs.declared.Refusal.{Refusal}
 
 -- a plant with another dose
 unfoldable pub withDose : ℕ → Plant → Plant
-withDose dose p = alteredPlant (p .«sludge_volume_index») dose (p .consent) (p .way) p
+withDose dose p = alteredPlant (p .flow) (p .«wet_weather_flow») (p .«site_surface») (p .«sludge_volume_index») dose (p .consent) (p .way) p
 
 -- 1 asks of document 01's figures alone; then the other rules
 unfoldable pub dataRulesWithoutDose : Plant → Readings → List Rule

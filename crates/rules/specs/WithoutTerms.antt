@@ -18,7 +18,7 @@ use Rattle.rules.specs.declared.Refusal.{Refusal}
 
 -- a plant with another consent
 unfoldable pub withConsent : Consent → Plant → Plant
-withConsent consent p = alteredPlant (p .«sludge_volume_index») (p .dose) consent (p .way) p
+withConsent consent p = alteredPlant (p .flow) (p .«wet_weather_flow») (p .«site_surface») (p .«sludge_volume_index») (p .dose) consent (p .way) p
 
 -- 1; then 17; then 2 and 3 of each reading in turn; then 4
 unfoldable pub dataRulesWithoutTerms : Plant → Readings → List Rule

@@ -33,7 +33,7 @@ use Rattle.rules.specs.declared.Acceptance.{Acceptance}
 
 -- a plant in another way
 unfoldable pub withWay : Way → Plant → Plant
-withWay way p = alteredPlant (p .«sludge_volume_index») (p .dose) (p .consent) way p
+withWay way p = alteredPlant (p .flow) (p .«wet_weather_flow») (p .«site_surface») (p .«sludge_volume_index») (p .dose) (p .consent) way p
 
 -- 4 is asked of every plant
 unfoldable pub dataRulesWithoutWay : Plant → Readings → List Rule

@@ -264,6 +264,7 @@ pub enum Refusal {
     Nitrification,
     TermNitrate,
     Bulking,
+    Lines,
 }
 
 // What a list of rules says: all of them are kept, or the refusal of the first that is broken.
@@ -352,6 +353,36 @@ pub struct Census {
     // at k how many candidates of the grid are answered with k: at 0 the permitted ones, at a rule's number those of which
     // it is the first broken
     pub counts: [u64; ANSWER_NUMBERS],
+}
+
+// The most lines of a works.
+pub const MOST_LINES: usize = 8;
+
+// How a works is split into lines: how many there are, and each one's share in thousandths. Entries past the count are not
+// looked at.
+pub struct Split {
+    pub count: u32,
+    pub shares: [u32; MOST_LINES],
+}
+
+// Figures of the sheets of a works' lines, added up.
+pub struct Sums {
+    pub sludge: u64,
+    pub mass: u64,
+    pub surface: u64,
+    pub reactor: u64,
+    pub settling: u64,
+    pub total: u64,
+    pub oxygen: u64,
+    pub transfer: u64,
+}
+
+// What a works is answered with: every line has a sheet, and the sums and the sheets; or a refusal, and zeros.
+pub struct Works {
+    pub verdict: Verdict,
+    pub sums: Sums,
+    // of the lines in order; zeros past their count
+    pub sheets: [Sheet; MOST_LINES],
 }
 
 // A day of the day log.

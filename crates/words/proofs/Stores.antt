@@ -7,10 +7,10 @@ use native.Mathlib.Numerals.{add-one}
 use native.Mathlib.Omega.{arith}
 use lib.ListN.{length, getD, set, drop, length-append, drop-of-length-le}
 use lib.Seq.{sets, sets-eq, drop-cons, drop-length}
-use Rattle.words.specs.Bytes.{word, wordsFrom, lowBytes, numberBytes}
+use Rattle.words.specs.Bytes.{word, wordsFrom, lowBytes, chunked, numberBytes}
 
 -- a run, and right after it those that are left
-stored-run : (x rest l : List ℕ) (i : ℕ) → sets (sets l i x) (i + length x) rest ≡ sets l i (x ++ rest)
+pub stored-run : (x rest l : List ℕ) (i : ℕ) → sets (sets l i x) (i + length x) rest ≡ sets l i (x ++ rest)
 stored-run [] rest l i = rw (add-zero)
 stored-run (a ∷ x) rest l i =
     let e : i + suc (length x) ≡ suc i + length x = omega arith in
@@ -29,11 +29,14 @@ length-eight : (n : ℕ) → length (lowBytes 8 n) ≡ 8
 unfolding lowBytes
 length-eight n = refl
 
+-- chunks of one size
+pub length-chunks : {A : Type 0} (chunk : A → List ℕ) (k : ℕ) → ((a : A) → length (chunk a) ≡ k) → (l : List A) → length (chunked chunk l) ≡ k * length l
+unfolding chunked
+length-chunks chunk k size [] = omega arith
+length-chunks chunk k size (a ∷ l) = length-append (chunk a) (chunked chunk l) ∙ omega (arith, length-chunks chunk k size l, size a)
+
 pub length-numbers : (numbers : List ℕ) → length (numberBytes numbers) ≡ 8 * length numbers
-unfolding numberBytes
-length-numbers [] = refl
-length-numbers (n ∷ numbers) =
-    length-append (lowBytes 8 n) (numberBytes numbers) ∙ omega (arith, length-numbers numbers, length-eight n)
+length-numbers numbers = length-chunks (lowBytes 8) 8 length-eight numbers
 
 -- one word more is stored, and at the end all of them
 pub word-stored :
@@ -66,19 +69,30 @@ byte-stored page at k rest below =
     let next : at + (k + 1) ≡ suc (at + k) = omega arith in
     rw (more, next)
 
--- one number more is stored, and at the end all of them
+-- one element's chunk more is stored from an index on, and at the end all of them
+pub chunk-stored :
+    {A : Type 0} (chunk : A → List ℕ) (d : A) (l : List A) (page after : List ℕ) (at next i : ℕ)
+    → i < length l
+    → next ≡ at + length (chunk (getD l i d))
+    → after ≡ sets page at (chunk (getD l i d))
+    → sets after next (chunked chunk (drop (i + 1) l)) ≡ sets page at (chunked chunk (drop i l))
+unfolding chunked
+chunk-stored chunk d l page after at next i below step e =
+    let left : chunked chunk (drop i l) ≡ chunk (getD l i d) ++ chunked chunk (drop (i + 1) l) = rw (add-one, drop-cons l i d below) in
+    rw (left, step, e) (stored-run (chunk (getD l i d)) (chunked chunk (drop (i + 1) l)) page at)
+
+pub chunks-stored :
+    {A : Type 0} (chunk : A → List ℕ) (l : List A) (page whole : List ℕ) (at i : ℕ)
+    → length l ≤ i
+    → sets page at (chunked chunk (drop i l)) ≡ whole
+    → page ≡ whole
+unfolding chunked
+chunks-stored chunk l page whole at i end e = rw (drop-of-length-le l end) at e
+
+-- so of numbers in eight bytes each
 pub number-stored :
     (numbers page after : List ℕ) (i : ℕ) → i < length numbers → after ≡ sets page (8 * i) (lowBytes 8 (getD numbers i 0))
     → sets after (8 * (i + 1)) (numberBytes (drop (i + 1) numbers)) ≡ sets page (8 * i) (numberBytes (drop i numbers))
-unfolding numberBytes
 number-stored numbers page after i below e =
     let next : 8 * (i + 1) ≡ 8 * i + length (lowBytes 8 (getD numbers i 0)) = omega (arith, length-eight (getD numbers i 0)) in
-    let left : numberBytes (drop i numbers) ≡ lowBytes 8 (getD numbers i 0) ++ numberBytes (drop (i + 1) numbers) =
-    rw (add-one, drop-cons numbers i 0 below) in
-    rw (left, next, e) (stored-run (lowBytes 8 (getD numbers i 0)) (numberBytes (drop (i + 1) numbers)) page (8 * i))
-
-pub numbers-stored :
-    (numbers page whole : List ℕ) (i : ℕ) → length numbers ≤ i → sets page (8 * i) (numberBytes (drop i numbers)) ≡ whole
-    → page ≡ whole
-unfolding numberBytes
-numbers-stored numbers page whole i end e = rw (drop-of-length-le numbers end) at e
+    chunk-stored (lowBytes 8) 0 numbers page after (8 * i) (8 * (i + 1)) i below next e

@@ -22,7 +22,11 @@ unfoldable pub lowBytes : ℕ → ℕ → List ℕ
 lowBytes zero n = []
 lowBytes (suc k) n = n % 256 ∷ lowBytes k (n / 256)
 
+-- what each element of a list gives, one after the other
+unfoldable pub chunked : {A : Type 0} → (A → List ℕ) → List A → List ℕ
+chunked chunk [] = []
+chunked chunk (a ∷ rest) = chunk a ++ chunked chunk rest
+
 -- the bytes of a list of numbers, eight for each
-unfoldable pub numberBytes : List ℕ → List ℕ
-numberBytes [] = []
-numberBytes (n ∷ numbers) = lowBytes 8 n ++ numberBytes numbers
+abbrev pub numberBytes : List ℕ → List ℕ
+numberBytes numbers = chunked (lowBytes 8) numbers

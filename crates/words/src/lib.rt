@@ -68,3 +68,13 @@ pub fn put_numbers(page: &mut [u8], numbers: &[u64])
         put_eight(page, 8 * i, numbers[i]);
     }
 }
+
+// Stores numbers in a list of numbers, from an index on: the others stay.
+pub fn store(list: &mut [u64], at: usize, numbers: &[u64])
+    requires { ⌜ at + length (now numbers) ≤ length (now list) ⌝ }
+    ensures { λ _. ⌜ now (list .exit) ≡ sets (now (list .entry)) at (now (numbers .entry)) ⌝ }
+{
+    'entry: for i in 0..numbers.len() {
+        list[at + i] = numbers[i];
+    }
+}

@@ -1,8 +1,9 @@
 //! What each call of the interface answers, by the reference.
 
-use crate::request::{decode, decode_target, CHOOSE_LENGTH, EXAMINE_LENGTH};
+use crate::request::{decode, decode_target, decode_works};
+use crate::request::{CHOOSE_LENGTH, EXAMINE_LENGTH, LINE_LENGTH, WORKS_LENGTH};
 use reference::stages::{InTerm, Stages};
-use reference::{listing, Answer};
+use reference::{listing, Answer, Sheet};
 
 pub const SHORT_PAGE: u32 = reference::refusal::SHORT_PAGE as u32;
 /// Bytes that explaining writes.
@@ -17,6 +18,8 @@ pub const CENSUS_PAGE: usize = 256;
 pub const LOAD_PAGE: usize = 16;
 /// Bytes that a target in force takes.
 pub const TARGET_PAGE: usize = 8;
+/// Bytes that a works writes: eight sums, and the sheets of eight lines.
+pub const WORKS_PAGE: usize = 8 * (8 + 8 * 15);
 
 /// The call's number and the bytes it writes at the start of the page.
 #[derive(Clone, Debug, PartialEq, Eq)]
@@ -156,5 +159,32 @@ pub fn target(request: &[u8], page_length: usize) -> Outcome {
     match reference::target_in_force(&consent, month, day) {
         Err(number) => put(u32::from(number), &[0]),
         Ok(target) => put(0, &[target.map_or(0, u64::from)]),
+    }
+}
+
+/// The sums over the lines and then each line's sheet, zeros past the lines, or
+/// a refusal and zeros.
+pub fn works(request: &[u8], page_length: usize) -> Outcome {
+    let data = match decode_works(request, WORKS_LENGTH) {
+        Err(fault) => return nothing(fault),
+        Ok(data) => data,
+    };
+    if page_length < WORKS_PAGE {
+        return nothing(SHORT_PAGE);
+    }
+    let works = reference::works(&data.plant, &data.readings, &data.split);
+    let mut figures = works.sums.figures().to_vec();
+    figures.extend(works.sheets.iter().flat_map(Sheet::figures));
+    put(u32::from(works.number), &figures)
+}
+
+/// The listing of one line's own answer.
+pub fn line(request: &[u8], page_length: usize) -> Outcome {
+    match decode_works(request, LINE_LENGTH) {
+        Err(fault) => nothing(fault),
+        Ok(data) => {
+            let answer = reference::line(&data.plant, &data.readings, &data.split, data.line);
+            listed(&answer, page_length)
+        }
     }
 }

@@ -1,5 +1,6 @@
 //! A request as words, its bytes, and decoding for the reference.
 
+use reference::works::MOST_LINES;
 use reference::*;
 
 pub const VERSION: usize = 0;
@@ -54,8 +55,17 @@ pub const CANDIDATE_WORDS: usize = 3;
 pub const FRACTION: usize = DATA_WORDS;
 pub const RETURN_RATIO: usize = DATA_WORDS + 1;
 pub const THICKENING: usize = DATA_WORDS + 2;
-/// Words of the longest request.
+/// Words of a request with a candidate.
 pub const WORDS: usize = DATA_WORDS + CANDIDATE_WORDS;
+
+/// The split of a works, which comes after the data as a candidate does: the
+/// number of its lines, then eight shares.
+pub const LINE_COUNT: usize = DATA_WORDS;
+pub const SHARES: usize = LINE_COUNT + 1;
+/// The line asked for, after the split.
+pub const LINE: usize = SHARES + MOST_LINES;
+/// Words of the longest request.
+const MOST_WORDS: usize = LINE + 1;
 
 /// The readings in their order.
 pub const READINGS: [usize; 5] = [BOD, COD, SOLIDS, NITROGEN, PHOSPHORUS];
@@ -124,6 +134,9 @@ pub const KIND_WORDS: [(usize, u32); 11] = [
 pub const EXAMINE_LENGTH: usize = 4 * WORDS;
 /// Bytes of a request to choose.
 pub const CHOOSE_LENGTH: usize = 4 * DATA_WORDS;
+/// Bytes of a request for a works, and for one of its lines.
+pub const WORKS_LENGTH: usize = 4 * LINE;
+pub const LINE_LENGTH: usize = 4 * (LINE + 1);
 
 /// Words of a request for a target: version, consent, and the date asked for.
 pub const ASKED_MONTH: usize = 2 + MOST_TERMS * TERM_WORDS;
@@ -196,6 +209,21 @@ impl Request {
     pub fn choose_bytes(&self) -> Vec<u8> {
         let mut bytes = self.examine_bytes();
         bytes.truncate(CHOOSE_LENGTH);
+        bytes
+    }
+
+    /// The request for a works: the data, then its split.
+    pub fn works_bytes(&self, split: &Split) -> Vec<u8> {
+        let mut bytes = self.choose_bytes();
+        bytes.extend(split.count.to_le_bytes());
+        bytes.extend(split.shares.iter().flat_map(|share| share.to_le_bytes()));
+        bytes
+    }
+
+    /// The request for one line of a works: the same, then the line's number.
+    pub fn line_bytes(&self, split: &Split, line: u32) -> Vec<u8> {
+        let mut bytes = self.works_bytes(split);
+        bytes.extend(line.to_le_bytes());
         bytes
     }
 
@@ -322,7 +350,7 @@ fn readings(words: &[u32]) -> Option<[Reading; 5]> {
 
 /// The words of a request of the given length, the rest zeros, or the number
 /// of its fault.
-fn words(bytes: &[u8], length: usize) -> Result<[u32; WORDS], u32> {
+fn words(bytes: &[u8], length: usize) -> Result<[u32; MOST_WORDS], u32> {
     let version = bytes.first_chunk().ok_or(WRONG_LENGTH)?;
     if u32::from_le_bytes(*version) != NEWEST_VERSION {
         return Err(WRONG_VERSION);
@@ -330,7 +358,7 @@ fn words(bytes: &[u8], length: usize) -> Result<[u32; WORDS], u32> {
     if bytes.len() != length {
         return Err(WRONG_LENGTH);
     }
-    let mut words = [0; WORDS];
+    let mut words = [0; MOST_WORDS];
     for (word, four) in words.iter_mut().zip(bytes.chunks_exact(4)) {
         *word = u32::from_le_bytes([four[0], four[1], four[2], four[3]]);
     }
@@ -345,17 +373,52 @@ pub fn decode_target(bytes: &[u8]) -> Result<(Consent, u32, u32), u32> {
     Ok((consent, words[ASKED_MONTH], words[ASKED_DAY]))
 }
 
+/// Plant and readings of a request, or the number of its fault.
+fn data(words: &[u32]) -> Result<(Plant, [Reading; 5]), u32> {
+    let plant = plant(words).ok_or(UNKNOWN_KIND)?;
+    let readings = readings(words).ok_or(UNKNOWN_KIND)?;
+    Ok((plant, readings))
+}
+
 /// A request of the given length, or the number of its fault. The candidate
 /// of a request to choose is zeros.
 pub fn decode(bytes: &[u8], length: usize) -> Result<Decoded, u32> {
     let words = words(bytes, length)?;
+    let (plant, readings) = data(&words)?;
     Ok(Decoded {
-        plant: plant(&words).ok_or(UNKNOWN_KIND)?,
-        readings: readings(&words).ok_or(UNKNOWN_KIND)?,
+        plant,
+        readings,
         candidate: Candidate {
             fraction: words[FRACTION],
             return_ratio: words[RETURN_RATIO],
             thickening: words[THICKENING],
         },
+    })
+}
+
+/// What the reference is given for a works or one of its lines.
+pub struct DecodedWorks {
+    pub plant: Plant,
+    pub readings: [Reading; 5],
+    pub split: Split,
+    /// 0 in a request for the whole works.
+    pub line: u32,
+}
+
+/// A request for a works, or for one of its lines, of the given length, or the
+/// number of its fault.
+pub fn decode_works(bytes: &[u8], length: usize) -> Result<DecodedWorks, u32> {
+    let words = words(bytes, length)?;
+    let (plant, readings) = data(&words)?;
+    let mut shares = [0; MOST_LINES];
+    shares.copy_from_slice(&words[SHARES..LINE]);
+    Ok(DecodedWorks {
+        plant,
+        readings,
+        split: Split {
+            count: words[LINE_COUNT],
+            shares,
+        },
+        line: words[LINE],
     })
 }

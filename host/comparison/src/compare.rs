@@ -1,8 +1,9 @@
 //! One request or day log to the library and to the reference.
 
+use crate::works::{line_plant, Divided};
 use cases::model::{self, Outcome};
 use library::number::{NO_DESIGN, SHEET};
-use library::{Census, CENSUS_LENGTH, PAGE_LENGTH};
+use library::{Census, CENSUS_LENGTH, PAGE_LENGTH, WORKS_PAGE};
 
 #[derive(Clone, Copy, Debug, PartialEq, Eq)]
 pub enum Operation {
@@ -12,6 +13,8 @@ pub enum Operation {
     Census,
     Load,
     Target,
+    Works,
+    Line,
 }
 
 /// Bytes before and after the page that must stay as they were.
@@ -38,6 +41,8 @@ fn call(operation: Operation, request: &[u8], page_length: usize) -> Given {
         Operation::Census => library::census(request, page),
         Operation::Load => library::load(request, page),
         Operation::Target => library::target(request, page),
+        Operation::Works => library::works(request, page),
+        Operation::Line => library::line(request, page),
     };
     Given {
         number,
@@ -54,6 +59,8 @@ pub fn expected(operation: Operation, request: &[u8], page_length: usize) -> Out
         Operation::Census => model::census(request, page_length),
         Operation::Load => model::load(request, page_length),
         Operation::Target => model::target(request, page_length),
+        Operation::Works => model::works(request, page_length),
+        Operation::Line => model::line(request, page_length),
     }
 }
 
@@ -73,11 +80,17 @@ fn hex(bytes: &[u8]) -> String {
     bytes.iter().map(|byte| format!("{byte:02x}")).collect()
 }
 
-/// Text of a listing, or hex.
+/// The bytes as numbers of eight bytes each, the lowest byte first.
+fn numbers(bytes: &[u8]) -> Vec<u64> {
+    let number = |eight: &[u8]| eight.iter().rev().fold(0, |n, b| n << 8 | u64::from(*b));
+    bytes.chunks_exact(8).map(number).collect()
+}
+
+/// Text of a listing, or numbers.
 fn shown(bytes: &[u8]) -> String {
     match std::str::from_utf8(bytes) {
         Ok(text) if !text.contains('\0') => text.replace('\n', "; "),
-        _ => hex(bytes),
+        _ => format!("{:?}", numbers(bytes)),
     }
 }
 
@@ -152,4 +165,83 @@ pub fn compare_census(request: &[u8]) -> Result<u32, String> {
             hex(request)
         )),
     }
+}
+
+/// Number and listing that a call gives.
+fn listed(call: fn(&[u8], &mut [u8]) -> (u32, u64), request: &[u8]) -> (u32, Vec<u8>) {
+    let mut page = [0; PAGE_LENGTH];
+    let (number, written) = call(request, &mut page);
+    (number, page[..written as usize].to_vec())
+}
+
+/// The figures of a sheet's listing.
+fn figures(listing: &[u8]) -> Vec<u64> {
+    let text = String::from_utf8_lossy(listing);
+    let figure = |line: &str| line.split(' ').nth(1)?.parse().ok();
+    text.lines().filter_map(figure).collect()
+}
+
+/// Places on a sheet of the figures that are added up, in their order.
+const ADDED: [usize; 8] = [4, 5, 8, 7, 10, 11, 13, 14];
+
+/// What a works comes to whose lines have these listings.
+fn put_together(lines: &[(u32, Vec<u8>)]) -> Vec<u64> {
+    let sheets: Vec<Vec<u64>> = lines.iter().map(|line| figures(&line.1)).collect();
+    let sum = |place: usize| sheets.iter().map(|sheet| sheet[place]).sum();
+    let mut all: Vec<u64> = ADDED.into_iter().map(sum).collect();
+    all.extend(sheets.iter().flatten());
+    all.resize(WORKS_PAGE / 8, 0);
+    all
+}
+
+/// What the library's works differs in from its own lines.
+fn beside_lines((plant, split): &Divided, lines: &[(u32, Vec<u8>)]) -> Result<u32, String> {
+    let request = plant.works_bytes(split);
+    let mut page = [0xff; WORKS_PAGE];
+    let (number, _) = library::works(&request, &mut page);
+    let refused = lines.iter().map(|line| line.0).find(|line| *line != SHEET);
+    let due = refused.unwrap_or(SHEET);
+    let wanted = match due {
+        SHEET => put_together(lines),
+        _ => vec![0; WORKS_PAGE / 8],
+    };
+    match number == due && numbers(&page) == wanted {
+        true => Ok(number),
+        false => Err(format!(
+            "Works: {number} {}, but its lines come to {due} {wanted:?}: {}",
+            shown(&page),
+            hex(&request)
+        )),
+    }
+}
+
+/// What a line differs in from the library's choice for a plant of its size.
+fn beside_choice(works: &Divided, number: u32, line: &(u32, Vec<u8>)) -> Result<(), String> {
+    let Some(alone) = line_plant(works, number) else {
+        return Ok(());
+    };
+    let chosen = listed(library::choose, &alone.choose_bytes());
+    match chosen == *line {
+        true => Ok(()),
+        false => Err(format!(
+            "Line {number}: {}, but the choice for its plant is {}: {}",
+            shown(&line.1),
+            shown(&chosen.1),
+            hex(&works.0.line_bytes(&works.1, number))
+        )),
+    }
+}
+
+/// The library's answer for a works that is rightly split against its own for
+/// each line, and each line's against its choice for a plant of that size.
+/// Gives the works' number.
+pub fn compare_lines(works: &Divided) -> Result<u32, String> {
+    let (plant, split) = works;
+    let lines: Vec<(u32, Vec<u8>)> = (1..=split.count)
+        .map(|number| listed(library::line, &plant.line_bytes(split, number)))
+        .collect();
+    for (number, line) in (1..).zip(&lines) {
+        beside_choice(works, number, line)?;
+    }
+    beside_lines(works, &lines)
 }

@@ -7,3 +7,4 @@ pub mod logs;
 pub mod requests;
 pub mod stack;
 pub mod targets;
+pub mod works;

@@ -3,6 +3,7 @@
 use crate::compare::Operation;
 use crate::logs;
 use crate::targets;
+use crate::works;
 use cases::cod_lines::with_random_way;
 use cases::lines::{on_cover, on_dose, random_on_line, with_dose, with_random_terms};
 use cases::model::EXPLAIN_PAGE;
@@ -130,22 +131,31 @@ fn damaged_length(random: &mut Random, mut bytes: Vec<u8>) -> Vec<u8> {
     bytes
 }
 
-/// A request's bytes for the operation, now and then damaged.
-pub fn any(random: &mut Random, tanks: &OnLines, operation: Operation) -> Vec<u8> {
+/// A request of which a reading, a figure, the candidate or a word may be odd.
+fn any_plant(random: &mut Random, tanks: &OnLines) -> Request {
     let request = sound(random, tanks);
-    let request = match random.within(0, 15) {
+    match random.within(0, 15) {
         0 | 1 => odd_reading(random, request),
         2 => edged_plant(random, request),
         3 => edged_candidate(random, request),
         4 => damaged_words(random, request),
         5 => edged_index(random, request),
         _ => request,
-    };
+    }
+}
+
+/// A request's bytes for the operation, now and then damaged.
+pub fn any(random: &mut Random, tanks: &OnLines, operation: Operation) -> Vec<u8> {
+    let request = any_plant(random, tanks);
     let bytes = match operation {
         Operation::Choose | Operation::Census => request.choose_bytes(),
         Operation::Examine | Operation::Explain => request.examine_bytes(),
         Operation::Load => logs::any(random),
         Operation::Target => targets::any(random),
+        Operation::Works | Operation::Line => {
+            let works = works::divided(random, request);
+            works::bytes(random, operation, &works)
+        }
     };
     if random.one_in(32) {
         damaged_length(random, bytes)
@@ -164,6 +174,13 @@ pub fn page_length(random: &mut Random) -> usize {
     }
 }
 
+/// A figure of a listing, by its label and the space after it.
+pub fn figure(listing: &[u8], label: &str) -> Option<u32> {
+    let text = String::from_utf8_lossy(listing);
+    let line = text.lines().find_map(|line| line.strip_prefix(label))?;
+    line.trim().parse().ok()
+}
+
 /// The site cut down to the chosen tank, or one below it.
 fn at_chosen_site(random: &mut Random, request: Request) -> Request {
     let mut page = [0; 512];
@@ -171,11 +188,7 @@ fn at_chosen_site(random: &mut Random, request: Request) -> Request {
     if number != library::number::SHEET {
         return request;
     }
-    let text = String::from_utf8_lossy(&page[..written as usize]).into_owned();
-    let figure = |label: &str| -> Option<u32> {
-        let line = text.lines().find_map(|line| line.strip_prefix(label))?;
-        line.trim().parse().ok()
-    };
+    let figure = |label: &str| figure(&page[..written as usize], label);
     let less = random.within(0, 1);
     let surface = figure("surface ").unwrap_or(2) - less;
     let depth = figure("depth ").unwrap_or(3_001) - less;

@@ -4,13 +4,15 @@ use cases::groups;
 use cases::random::Random;
 use cases::tanks::OnLines;
 use comparison::cod;
-use comparison::compare::{agree, compare, compare_census, expected, Operation};
+use comparison::compare::{agree, compare, compare_census, compare_lines, expected, Operation};
 use comparison::counts::{in_parts, settle, Found};
 use comparison::logs;
 use comparison::requests;
 use comparison::stack::stack_of;
 use comparison::targets;
+use comparison::works::{self, Divided};
 use library::number::*;
+use library::WORKS_PAGE;
 
 const EXAMINATIONS: usize = 50_000;
 const EXPLANATIONS: usize = 50_000;
@@ -21,6 +23,10 @@ const CENSUSES: usize = 320;
 const ANY_CENSUSES: usize = 960;
 const LOADS: usize = 1_600;
 const TARGETS: usize = 50_000;
+const WORKS: usize = 1_600;
+const LINES_OF_WORKS: usize = 2_400;
+/// By the library alone.
+const WORKS_BESIDE_LINES: usize = 8_000;
 
 /// Random requests of one operation, on pages of several lengths.
 fn random_requests(operation: Operation, seed: u64, count: usize) -> Found {
@@ -37,11 +43,11 @@ fn random_requests(operation: Operation, seed: u64, count: usize) -> Found {
     })
 }
 
-/// So many answers of each number but these and a day log's.
+/// So many answers of each number but these, a day log's and a split's.
 fn all_but(not_given: &[u32], least: usize) -> Vec<(u32, usize)> {
     let numbers = ALL.iter().map(|known| known.number);
     numbers
-        .filter(|number| ![DAY_LOG, DAY_VALUE].contains(number))
+        .filter(|number| ![DAY_LOG, DAY_VALUE, LINES].contains(number))
         .filter(|number| !not_given.contains(number))
         .map(|number| (number, least))
         .collect()
@@ -261,14 +267,163 @@ fn targets_made_to_measure() {
     settle("target, made to measure", &found, &wanted);
 }
 
+/// Works or lines on their pages: every other one mostly has a design.
+fn random_works(operation: Operation, seed: u64, count: usize) -> Found {
+    let tanks = OnLines::find();
+    in_parts(seed, count, |seed, share| {
+        let mut random = Random::new(seed);
+        let mut found = Found::default();
+        for turn in 0..share {
+            let bytes = match turn % 2 {
+                0 => {
+                    let divided = works::with_design(&mut random);
+                    works::bytes(&mut random, operation, &divided)
+                }
+                _ => requests::any(&mut random, &tanks, operation),
+            };
+            let length = match operation {
+                Operation::Works => works::page_length(&mut random),
+                _ => requests::page_length(&mut random),
+            };
+            found.add(compare(operation, &bytes, length));
+        }
+        found
+    })
+}
+
+/// So many answers of each number that a works or a line can have.
+fn of_works(least: usize) -> Vec<(u32, usize)> {
+    let mut wanted = all_but(&[&[OFF_GRID], &OF_CANDIDATE[..]].concat(), least);
+    wanted.push((LINES, least));
+    wanted
+}
+
+#[test]
+fn any_works() {
+    let found = random_works(Operation::Works, 10_000, WORKS);
+    let frequent = vec![(SHEET, 400), (PLANT_DATA, 200), (NO_DESIGN, 200)];
+    let wanted = [of_works(5), frequent].concat();
+    settle("works", &found, &wanted);
+}
+
+#[test]
+fn any_lines() {
+    let found = random_works(Operation::Line, 11_000, LINES_OF_WORKS);
+    let frequent = vec![(SHEET, 700), (PLANT_DATA, 200), (NO_DESIGN, 300)];
+    let wanted = [of_works(10), frequent].concat();
+    settle("lines", &found, &wanted);
+}
+
+/// Each of these works, in parts.
+fn each(all: &[Divided], one: impl Fn(&Divided, &mut Found) + Sync) -> Found {
+    in_parts(0, all.len(), |part, share| {
+        let mut found = Found::default();
+        for divided in all.iter().skip(part as usize * share).take(share) {
+            one(divided, &mut found);
+        }
+        found
+    })
+}
+
+/// Each rule of a split just met and just missed; and the first line, one in the
+/// middle and the last, with the numbers before and after them.
+#[test]
+fn works_made_to_measure() {
+    let all = works::made_to_measure();
+    let wanted = [
+        (SHEET, 200),
+        (PLANT_DATA, 400),
+        (NO_NUMBER, 50),
+        (READING_RANGE, 25),
+        (COD_RATIO, 8),
+        (NO_DESIGN, 100),
+        (TERMS, 10),
+        (BULKING, 100),
+        (LINES, 1_000),
+    ];
+    let found = each(&all, |(plant, split), found| {
+        let bytes = plant.works_bytes(split);
+        found.add(compare(Operation::Works, &bytes, WORKS_PAGE));
+    });
+    settle("works, made to measure", &found, &wanted);
+    let found = each(&all, |(plant, split), found| {
+        let last = split.count.min(8);
+        for number in [0, 1, last / 2 + 1, last, last + 1] {
+            let bytes = plant.line_bytes(split, number);
+            found.add(compare(Operation::Line, &bytes, 512));
+        }
+    });
+    settle("lines, made to measure", &found, &wanted);
+}
+
+/// Random works with a design have every number of lines, either way, terms and
+/// a dose.
+#[test]
+fn kinds_of_random_works() {
+    use cases::request::{BY_COD, DOSE, TERM_COUNT, WAY};
+    let mut random = Random::new(13_000);
+    let mut lines = [0; 9];
+    let (mut by_cod, mut terms, mut dosed) = (0, 0, 0);
+    for _ in 0..2_000 {
+        let (plant, split) = works::with_design(&mut random);
+        let mut page = [0; WORKS_PAGE];
+        if library::works(&plant.works_bytes(&split), &mut page).0 == SHEET {
+            lines[split.count as usize] += 1;
+            by_cod += u32::from(plant.get(WAY) == BY_COD);
+            terms += u32::from(plant.get(TERM_COUNT) > 0);
+            dosed += u32::from(plant.get(DOSE) > 0);
+        }
+    }
+    assert!(lines[2..].iter().all(|count| *count >= 30), "{lines:?}");
+    for (kind, count) in [("by COD", by_cod), ("terms", terms), ("dosed", dosed)] {
+        assert!(count >= 100, "{count} {kind}");
+    }
+}
+
+/// A works is its lines, and each line is a plant: by the library alone.
+#[test]
+fn works_beside_their_lines() {
+    let found = in_parts(12_000, WORKS_BESIDE_LINES, |seed, share| {
+        let mut random = Random::new(seed);
+        let mut found = Found::default();
+        for _ in 0..share {
+            found.add(compare_lines(&works::with_design(&mut random)));
+        }
+        found
+    });
+    let wanted = [(SHEET, 2_000), (NO_DESIGN, 1_000), (PLANT_DATA, 1_000)];
+    settle("works beside their lines", &found, &wanted);
+}
+
+/// Every length, of this version and of its neighbours, also on a short page.
+#[test]
+fn lengths_of_works() {
+    let mut found = Found::default();
+    for bytes in works::lengths() {
+        found.add(compare(Operation::Works, &bytes, WORKS_PAGE));
+        found.add(compare(Operation::Works, &bytes, WORKS_PAGE - 1));
+        found.add(compare(Operation::Line, &bytes, 512));
+        found.add(compare(Operation::Line, &bytes, 0));
+    }
+    let wanted = [
+        (SHEET, 4),
+        (SHORT_PAGE, 4),
+        (BAD_LENGTH, 3_000),
+        (BAD_VERSION, 6_000),
+        (BAD_KIND, 4),
+    ];
+    settle("lengths of works", &found, &wanted);
+}
+
 /// Every page length up to a few bytes more than the listing, for an
-/// examination, a choice, a refusal, an explanation, a census, a load and a
-/// target.
+/// examination, a choice, a refusal, an explanation, a census, a load, a
+/// target, works and lines.
 #[test]
 fn page_lengths() {
     let plant = cases::plants::case_a();
     let off_grid = plant.with(cases::request::FRACTION, 199);
     let no_load = plant.with(cases::request::LOAD, 0);
+    let (late, two) = (works::late(), works::split(&[600, 400]));
     let mut found = Found::default();
     for (operation, bytes) in [
         (Operation::Examine, plant.examine_bytes()),
@@ -282,8 +437,12 @@ fn page_lengths() {
         (Operation::Load, Vec::new()),
         (Operation::Target, targets::request(0, &[[0; 6]; 4], (1, 1))),
         (Operation::Target, targets::request(0, &[[0; 6]; 4], (0, 1))),
+        (Operation::Works, late.works_bytes(&two)),
+        (Operation::Works, late.works_bytes(&works::split(&[1_000]))),
+        (Operation::Line, late.line_bytes(&two, 2)),
+        (Operation::Line, late.line_bytes(&two, 3)),
     ] {
-        let exact = expected(operation, &bytes, 512).written.len();
+        let exact = expected(operation, &bytes, WORKS_PAGE).written.len();
         for length in 0..=exact + 3 {
             found.add(compare(operation, &bytes, length));
         }
@@ -297,7 +456,8 @@ fn page_lengths() {
             (OFF_GRID, 8),
             (DAY_LOG, 4),
             (TERMS, 4),
-            (SHORT_PAGE, 900),
+            (LINES, 8),
+            (SHORT_PAGE, 3_000),
         ],
     );
 }
@@ -344,8 +504,10 @@ fn stack_as_stated() {
     let log = logs::log(&[(0, 0); 3_660]);
     let target = targets::request(4, &four, (2, 29));
     let by_cod = seasons.with(cases::request::WAY, cases::request::BY_COD);
+    let eight = works::equal(8);
     for request in [plant, vertical, seasons, by_cod] {
         let (examine, choose) = (request.examine_bytes(), request.choose_bytes());
+        let (works, line) = (request.works_bytes(&eight), request.line_bytes(&eight, 8));
         for (call, bytes, stated) in [
             (library::CHOOSE, &choose, 16_000),
             (library::EXAMINE, &examine, 3_000),
@@ -353,8 +515,10 @@ fn stack_as_stated() {
             (library::CENSUS, &choose, 3_000),
             (library::LOAD, &log, 3_000),
             (library::TARGET, &target, 3_000),
+            (library::WORKS, &works, 21_000),
+            (library::LINE, &line, 17_000),
         ] {
-            let (_, taken) = stack_of(call, bytes, &mut [0; 512]);
+            let (_, taken) = stack_of(call, bytes, &mut [0; WORKS_PAGE]);
             assert!(
                 taken <= stated,
                 "{taken} bytes, include/pewgull.h states {stated}"

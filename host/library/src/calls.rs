@@ -55,6 +55,14 @@ calls! {
     /// Finds the lowest nitrate target in force on the date of a request of
     /// `TARGET_LENGTH` bytes and writes its `TARGET_PAGE` bytes.
     target, TARGET: pewgull_target;
+
+    /// Chooses for each line of a works, by a request of `WORKS_LENGTH` bytes,
+    /// and writes the `WORKS_PAGE` bytes of the sums and the lines' sheets.
+    works, WORKS: pewgull_works;
+
+    /// Chooses for one line of a works, by a request of `LINE_LENGTH` bytes,
+    /// whatever the other lines get, and writes the listing.
+    line, LINE: pewgull_line;
 }
 
 fn call(function: Call, request: &[u8], page: &mut [u8]) -> (u32, u64) {

@@ -2,11 +2,12 @@
 //! number that a candidate can be answered with.
 
 use crate::number::{DEPTH, NITRATE, NITRIFICATION, SHEET, SOLIDS, SURFACE, TERM_NITRATE};
+use crate::page::{number, NUMBER};
 
 /// Counts of a census, by number.
 const COUNTS: usize = 32;
 /// Bytes that `census` writes.
-pub const CENSUS_LENGTH: usize = 8 * COUNTS;
+pub const CENSUS_LENGTH: usize = NUMBER * COUNTS;
 
 /// The numbers that a candidate of the grid is answered with: 0 where it is
 /// permitted, else that of the first rule that it breaks, in this order.
@@ -27,13 +28,7 @@ pub struct Census([u64; COUNTS]);
 impl Census {
     /// Reads the page of `census`.
     pub fn from_page(page: &[u8; CENSUS_LENGTH]) -> Census {
-        let mut counts = [0; COUNTS];
-        for (count, bytes) in counts.iter_mut().zip(page.chunks_exact(8)) {
-            let mut number = [0; 8];
-            number.copy_from_slice(bytes);
-            *count = u64::from_le_bytes(number);
-        }
-        Census(counts)
+        Census(std::array::from_fn(|place| number(page, place)))
     }
 
     /// The candidates that are answered with this number.

@@ -1,6 +1,7 @@
 //! The page of `explain`: 29 64-bit numbers, little-endian, nine of the
 //! candidate and five of each of the four entries for terms.
 
+use crate::page::{number, NUMBER};
 use crate::terms::MOST_TERMS;
 
 /// Figures of the candidate, the verdict among them.
@@ -8,7 +9,7 @@ const OF_CANDIDATE: usize = 9;
 /// Figures of a term.
 const OF_TERM: usize = 5;
 /// Bytes that `explain` writes.
-pub const FIGURES_LENGTH: usize = 8 * (OF_CANDIDATE + OF_TERM * MOST_TERMS);
+pub const FIGURES_LENGTH: usize = NUMBER * (OF_CANDIDATE + OF_TERM * MOST_TERMS);
 
 /// The figures that a candidate is judged by.
 #[derive(Clone, Copy, Debug, PartialEq, Eq)]
@@ -55,11 +56,7 @@ pub struct TermFigures {
 impl Figures {
     /// Reads the page of `explain`.
     pub fn from_page(page: &[u8; FIGURES_LENGTH]) -> Figures {
-        let figure = |place: usize| {
-            let mut bytes = [0; 8];
-            bytes.copy_from_slice(&page[8 * place..8 * place + 8]);
-            u64::from_le_bytes(bytes)
-        };
+        let figure = |place: usize| number(page, place);
         let of_term = |term: usize| {
             let first = OF_CANDIDATE + OF_TERM * term;
             TermFigures {

@@ -6,20 +6,23 @@ mod census;
 mod figures;
 mod load;
 pub mod number;
+mod page;
 mod request;
 pub mod sheet;
 mod terms;
+mod works;
 
-pub use calls::{census, choose, examine, explain, load, target};
-pub use calls::{Call, CENSUS, CHOOSE, EXAMINE, EXPLAIN, LOAD, TARGET};
+pub use calls::{census, choose, examine, explain, line, load, target, works};
+pub use calls::{Call, CENSUS, CHOOSE, EXAMINE, EXPLAIN, LINE, LOAD, TARGET, WORKS};
 pub use census::{Census, CENSUS_LENGTH, COUNTED};
 pub use figures::{Figures, TermFigures, FIGURES_LENGTH};
 pub use load::{day_log, Day, Load, LEAST_DAYS, LOAD_PAGE, MOST_BOD, MOST_DAYS, MOST_FLOW};
 pub use request::{
     Candidate, Precipitant, PrimarySettling, Process, Reading, Removal, Request, TankFlow, Way,
-    CHOOSE_LENGTH, EXAMINE_LENGTH, EXPLAIN_LENGTH, VERSION,
+    CHOOSE_LENGTH, EXAMINE_LENGTH, EXPLAIN_LENGTH, LINE_LENGTH, VERSION, WORKS_LENGTH,
 };
 pub use terms::{target_from_page, Date, Term, Terms, MOST_TERMS, TARGET_LENGTH, TARGET_PAGE};
+pub use works::{Split, Works, LEAST_LINES, LEAST_SHARE, MOST_LINES, SUMS, WHOLE, WORKS_PAGE};
 
 /// A page of this length takes every listing.
 pub const PAGE_LENGTH: usize = 512;

@@ -1,6 +1,8 @@
 //! The bytes of a day log, and the page of `load`: two 64-bit numbers,
 //! little-endian.
 
+use crate::page::number;
+
 /// Bytes that `load` writes, and the least length of its page.
 pub const LOAD_PAGE: usize = 16;
 
@@ -45,14 +47,9 @@ pub struct Load {
 impl Load {
     /// Reads the page of `load`.
     pub fn from_page(page: &[u8; LOAD_PAGE]) -> Load {
-        let number = |place: usize| {
-            let mut bytes = [0; 8];
-            bytes.copy_from_slice(&page[8 * place..8 * place + 8]);
-            u64::from_le_bytes(bytes)
-        };
         Load {
-            sum: number(0),
-            day: number(1),
+            sum: number(page, 0),
+            day: number(page, 1),
         }
     }
 }

@@ -38,13 +38,14 @@ numbers! {
     NITRIFICATION 15 "nitrification";
     TERM_NITRATE 16 "term nitrate";
     BULKING 17 "bulking sludge";
+    LINES 18 "lines";
     BAD_LENGTH 101 "bad length";
     BAD_VERSION 102 "bad version";
     BAD_KIND 103 "bad kind";
 }
 
-/// Whether a number says that the data, the candidate, the day log or the date
-/// are refused.
+/// Whether a number says that the data, the candidate, the day log, the date or
+/// the split are refused.
 pub fn is_refusal(number: u32) -> bool {
     number != SHEET && number != SHORT_PAGE && number < BAD_LENGTH
 }

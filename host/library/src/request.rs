@@ -1,6 +1,7 @@
 //! A request and its bytes: 32-bit numbers, little-endian, without padding.
 
 use crate::terms::{Terms, TERMS_WORDS};
+use crate::works::{Split, SPLIT_WORDS};
 
 /// Version of the layout.
 pub const VERSION: u32 = 4;
@@ -22,6 +23,10 @@ pub const CHOOSE_LENGTH: usize = 4 * DATA_WORDS;
 pub const EXAMINE_LENGTH: usize = 4 * (DATA_WORDS + CANDIDATE_WORDS);
 /// Bytes of a request to explain.
 pub const EXPLAIN_LENGTH: usize = EXAMINE_LENGTH;
+/// Bytes of a request for a works.
+pub const WORKS_LENGTH: usize = 4 * (DATA_WORDS + SPLIT_WORDS);
+/// Bytes of a request for a line of a works: one word more, its number.
+pub const LINE_LENGTH: usize = WORKS_LENGTH + 4;
 
 #[derive(Clone, Copy, Debug, Default, PartialEq, Eq)]
 pub enum Process {
@@ -194,6 +199,23 @@ impl Request {
             &mut bytes[CHOOSE_LENGTH..],
             &[fraction, return_ratio, thickening],
         );
+        bytes
+    }
+
+    /// The bytes of a request for the works that is split so.
+    pub fn to_works(&self, split: &Split) -> [u8; WORKS_LENGTH] {
+        let mut bytes = [0; WORKS_LENGTH];
+        bytes[..CHOOSE_LENGTH].copy_from_slice(&self.to_choose());
+        put(&mut bytes[CHOOSE_LENGTH..], &split.words());
+        bytes
+    }
+
+    /// The bytes of a request for a line of the works that is split so; the
+    /// lines are counted from 1.
+    pub fn to_line(&self, split: &Split, line: u32) -> [u8; LINE_LENGTH] {
+        let mut bytes = [0; LINE_LENGTH];
+        bytes[..WORKS_LENGTH].copy_from_slice(&self.to_works(split));
+        put(&mut bytes[WORKS_LENGTH..], &[line]);
         bytes
     }
 

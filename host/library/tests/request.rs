@@ -4,8 +4,9 @@ mod common;
 
 use common::{case_a, CASE_A_CANDIDATE};
 use library::{
-    Candidate, Date, Precipitant, PrimarySettling, Process, Reading, Removal, Request, TankFlow,
-    Term, Terms, Way, CHOOSE_LENGTH, EXAMINE_LENGTH, EXPLAIN_LENGTH, TARGET_LENGTH,
+    Candidate, Date, Precipitant, PrimarySettling, Process, Reading, Removal, Request, Split,
+    TankFlow, Term, Terms, Way, CHOOSE_LENGTH, EXAMINE_LENGTH, EXPLAIN_LENGTH, LINE_LENGTH,
+    TARGET_LENGTH, WORKS_LENGTH,
 };
 
 fn word(bytes: &[u8], place: usize) -> u32 {
@@ -20,6 +21,8 @@ fn lengths_are_those_of_the_header_for_c() {
         ("EXAMINE", EXAMINE_LENGTH),
         ("EXPLAIN", EXPLAIN_LENGTH),
         ("TARGET", TARGET_LENGTH),
+        ("WORKS", WORKS_LENGTH),
+        ("LINE", LINE_LENGTH),
     ];
     for (call, length) in lengths {
         let line = format!("#define PEWGULL_{call}_LENGTH {length}\n");
@@ -29,6 +32,10 @@ fn lengths_are_those_of_the_header_for_c() {
         (CHOOSE_LENGTH, EXAMINE_LENGTH, TARGET_LENGTH),
         (224, 236, 112)
     );
+    assert_eq!((WORKS_LENGTH, LINE_LENGTH), (260, 264));
+    let page = format!("#define PEWGULL_WORKS_PAGE {}\n", library::WORKS_PAGE);
+    assert!(header.contains(&page), "{page}");
+    assert_eq!(library::WORKS_PAGE, 1_024);
     assert_eq!(library::FIGURES_LENGTH, 232);
     assert_eq!(library::CENSUS_LENGTH, 256);
 }
@@ -58,6 +65,43 @@ fn a_request_to_choose_is_the_start_of_one_to_examine() {
     assert_eq!(
         request.to_choose()[..],
         request.to_examine(CASE_A_CANDIDATE)[..CHOOSE_LENGTH]
+    );
+}
+
+/// The number of lines is word 56, the shares are the next eight, and the
+/// line's number is word 65; the data come before them unchanged.
+#[test]
+fn bytes_of_a_request_for_a_works() {
+    let split = Split {
+        count: 56,
+        shares: [57, 58, 59, 60, 61, 62, 63, 64],
+    };
+    let bytes = case_a().to_line(&split, 65);
+    assert_eq!(bytes[..CHOOSE_LENGTH], case_a().to_choose());
+    assert_eq!(bytes[..WORKS_LENGTH], case_a().to_works(&split));
+    for place in 56..66 {
+        assert_eq!(word(&bytes, place), place as u32, "word {place}");
+    }
+}
+
+/// A ninth share is counted and has no entry.
+#[test]
+fn shares_are_counted() {
+    let shares = [1, 2, 3, 4, 5, 6, 7, 8, 9];
+    for count in 0..=9 {
+        let split = Split::of(&shares[..count]);
+        assert_eq!(split.count, count as u32);
+        assert_eq!(split.named(), &shares[..count.min(8)]);
+        assert!(split.shares[count.min(8)..].iter().all(|share| *share == 0));
+    }
+    let count = u32::MAX;
+    assert_eq!(
+        Split {
+            count,
+            ..Split::of(&shares)
+        }
+        .named(),
+        &shares[..8]
     );
 }
 

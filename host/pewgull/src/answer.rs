@@ -4,13 +4,16 @@ use crate::census;
 use crate::consent;
 use crate::explanation;
 use crate::json::{self, Member, Value};
+use crate::works;
 use library::number::{self, SHEET};
 use library::sheet::candidates;
 use library::{target_from_page, Date, Terms, TARGET_PAGE};
 use library::{Candidate, Load, Request, LOAD_PAGE, PAGE_LENGTH};
+use library::{Split, Works, WORKS_PAGE};
 
 /// The library's number, what an answer that is no refusal is called, its
-/// text and its members, and what is to be said of it on standard error.
+/// text and its members, and what is to be said of it on standard error. A
+/// refusal has members beside its number and word, where they say more.
 pub struct Answer {
     pub number: u32,
     pub kind: &'static str,
@@ -35,11 +38,15 @@ pub fn examine(request: &Request, candidate: Candidate) -> Answer {
 
 /// A listing, as the library wrote it.
 fn listed(number: u32, listing: &[u8]) -> Answer {
+    let members = match number {
+        SHEET => json::members(&String::from_utf8_lossy(listing)),
+        _ => Vec::new(),
+    };
     Answer {
         number,
         kind: "sheet",
         text: listing.to_vec(),
-        members: json::members(&String::from_utf8_lossy(listing)),
+        members,
         remark: None,
     }
 }
@@ -58,8 +65,7 @@ pub fn census(request: &Request) -> Answer {
     };
     let text: String = census::lines(&counts).map(|line| line + "\n").collect();
     let mut members = json::members(&text);
-    let size = candidates(request.tank).into();
-    members.push(("candidates".to_string(), Value::Number(size)));
+    members.push(json::number("candidates", candidates(request.tank)));
     Answer {
         number: SHEET,
         kind: "census",
@@ -117,7 +123,7 @@ pub fn explain(request: &Request, candidate: Candidate) -> Answer {
     let lines = explanation::lines(request, candidate, &figures);
     let text = explanation::text(&lines) + &format!("verdict {verdict}\n");
     let mut members: Vec<Member> = lines.iter().flat_map(|line| line.members()).collect();
-    members.push(("verdict".to_string(), Value::Number(verdict.into())));
+    members.push(json::number("verdict", verdict));
     members.push(json::text(
         "word",
         number::word(verdict).unwrap_or_default(),
@@ -125,6 +131,39 @@ pub fn explain(request: &Request, candidate: Candidate) -> Answer {
     Answer {
         number: SHEET,
         kind: "figures",
+        text: text.into_bytes(),
+        members,
+        remark: None,
+    }
+}
+
+/// The answer of `works`: the sums over its lines, and each line's sheet; of a
+/// refused works the first line that is refused, where it is one.
+pub fn works(request: &Request, split: &Split) -> Answer {
+    let mut page = [0; WORKS_PAGE];
+    let (number, _) = library::works(&request.to_works(split), &mut page);
+    if number != SHEET {
+        let lines = works::refused_lines(request, split);
+        let first = lines.first().map(|first| json::number("line", first.line));
+        return Answer {
+            members: first.into_iter().collect(),
+            ..refused(number)
+        };
+    }
+    let found = Works::from_page(&page);
+    let mut text = works::sums(&found);
+    let mut members = json::members(&text);
+    let mut lines = Vec::new();
+    for (line, listing) in works::listings(&found, split) {
+        text += &format!("# line {line}\n{listing}");
+        let mut object = vec![json::number("line", line)];
+        object.extend(json::members(&listing));
+        lines.push(object);
+    }
+    members.push(("lines".to_string(), Value::List(lines)));
+    Answer {
+        number,
+        kind: "works",
         text: text.into_bytes(),
         members,
         remark: None,

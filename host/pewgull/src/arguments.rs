@@ -3,7 +3,7 @@
 use crate::answer::{self, Answer};
 use crate::values;
 use library::sheet::{Side, GRID};
-use library::{Candidate, Date, Request, Terms};
+use library::{Candidate, Date, Request, Split, Terms};
 use std::ffi::OsString;
 
 /// What a command takes, and the call that answers it.
@@ -17,6 +17,8 @@ pub enum Action {
     Logs(fn(&[u8]) -> Answer),
     /// `FILE MM-DD`: the terms of one file and one date
     Date(fn(&Terms, Date) -> Answer),
+    /// `FILE...`: each works by itself, split by its shares
+    Works(fn(&Request, &Split) -> Answer),
 }
 
 pub struct Form {
@@ -57,13 +59,18 @@ pub const COMMANDS: &[Form] = &[
         about: "prints the lowest nitrate target in force on a day, by the file's terms",
         action: Action::Date(answer::target),
     },
+    Form {
+        name: "works",
+        about: "prints the sums of a works in several lines, and the sheet of each line",
+        action: Action::Works(answer::works),
+    },
 ];
 
 impl Form {
     /// The words after the command.
     pub fn words(&self) -> &'static str {
         match self.action {
-            Action::Plants(_) => "FILE...",
+            Action::Plants(_) | Action::Works(_) => "FILE...",
             Action::Candidate(_) => "FILE F R H",
             Action::Logs(_) => "[--csv] LOG...",
             Action::Date(_) => "FILE MM-DD",
@@ -74,6 +81,7 @@ impl Form {
     fn read(&self, words: &[OsString], csv: bool) -> Result<(Task, Vec<OsString>), String> {
         match self.action {
             Action::Plants(call) => Ok((Task::Plants(call), self.files(words)?)),
+            Action::Works(call) => Ok((Task::Works(call), self.files(words)?)),
             Action::Logs(call) => Ok((Task::Logs { call, csv }, self.files(words)?)),
             Action::Candidate(call) => {
                 let (file, candidate) = file_and_candidate(self.name, words)?;
@@ -106,6 +114,7 @@ pub enum Task {
         csv: bool,
     },
     Date(fn(&Terms, Date) -> Answer, Date),
+    Works(fn(&Request, &Split) -> Answer),
 }
 
 /// A command with its words.

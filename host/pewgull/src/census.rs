@@ -160,14 +160,14 @@ fn look_first(request: &Request, census: &Census, rule: u32) -> String {
     text + ":"
 }
 
-/// The lines of a census without a permitted candidate, and where to look.
+/// The lines of a census without a permitted candidate, and where to look
+/// first.
 pub fn advice(request: &Request, census: &Census) -> String {
     let lines: String = lines(census).map(|line| format!("\n  {line}")).collect();
     let rule = first(census);
     lines
         + &filled(&look_first(request, census, rule))
         + &filled(&format!("{}.", remedy(rule, request)))
-        + "\n  'pewgull explain FILE F R H' shows how far a candidate is from its limits"
 }
 
 #[cfg(test)]

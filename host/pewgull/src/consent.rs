@@ -4,8 +4,9 @@
 
 use crate::keys::{Range, TERM_TARGET, TERM_TEMPERATURE};
 use crate::plant_file::PlantFile;
+use crate::refusal::headed;
 use crate::values::listed;
-use library::number;
+use library::number::TERMS;
 use library::{Date, Term, Terms, MOST_TERMS};
 
 /// Days of each month; 29 February is one.
@@ -100,10 +101,8 @@ pub fn no_term_runs(terms: &Terms, date: Date) -> String {
 
 /// The message of a refusal of the terms, or of the date asked for.
 pub fn words(number: u32, file: &PlantFile, date: Date) -> String {
-    let word = number::word(number).unwrap_or("unknown");
-    let mut message =
-        format!("refused {number} ({word}): a term or the date asked for is not valid");
-    if number == number::TERMS {
+    let mut message = headed(number, "a term or the date asked for is not valid");
+    if number == TERMS {
         let date = wrong_date("date", date);
         for line in faults(file).into_iter().chain(date) {
             message += &format!("\n  {line}");

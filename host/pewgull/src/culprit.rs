@@ -97,6 +97,23 @@ fn results(request: &Request) -> Vec<Outcome<'static>> {
     found
 }
 
+/// The request with each head count as the measured reading that it comes to.
+pub fn measured(request: &Request) -> Request {
+    let mut measured = *request;
+    for result in results(request) {
+        if let (Field::Reading(_, at), Reading::Heads(_)) = (&result.key.field, result.reading) {
+            *at(&mut measured) = Reading::Measured(nearest(result.thousandths));
+        }
+    }
+    measured
+}
+
+/// The bits of the f32 nearest to so many thousandths of mg/l. Up to the
+/// largest result of a reading it comes to these thousandths again.
+fn nearest(thousandths: f64) -> u32 {
+    ((thousandths / 1000.0) as f32).to_bits()
+}
+
 fn thousandths(reading: Reading, per_head: u32, flow: u32) -> f64 {
     let exact = |bits: u32| f64::from(f32::from_bits(bits)) * 1000.0;
     match reading {
@@ -180,4 +197,18 @@ fn cod_ratio(bod: &Outcome, cod: &Outcome) -> Vec<String> {
     vec![format!(
         "cod {cod}, bod {bod}: cod may be at most 2.2 times bod"
     )]
+}
+
+#[cfg(test)]
+mod tests {
+    use super::*;
+
+    #[test]
+    fn the_nearest_reading_comes_to_its_thousandths() {
+        for wanted in 0..=4_400_000 {
+            let wanted = f64::from(wanted);
+            let reading = Reading::Measured(nearest(wanted));
+            assert_eq!(thousandths(reading, 0, 0), wanted);
+        }
+    }
 }

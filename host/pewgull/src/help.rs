@@ -2,11 +2,13 @@
 
 use crate::arguments::COMMANDS;
 use crate::census;
+use crate::keys::{shares_expected, SHARES_WORDS, TERM_TARGET, TERM_TEMPERATURE, TERM_WORDS};
 use crate::keys::{Field, HEADS, KEYS, MOST_DOSE_WITHOUT_SLUDGE};
-use crate::keys::{TERM_TARGET, TERM_TEMPERATURE, TERM_WORDS};
+use crate::values::listed;
+use crate::works::SPLIT;
 use library::number;
 use library::sheet::{GRID, LINES};
-use library::{COUNTED, KIT, MOST_TERMS, VERSION};
+use library::{COUNTED, KIT, MOST_TERMS, SUMS, VERSION};
 use library::{LEAST_DAYS, MOST_BOD, MOST_DAYS, MOST_FLOW};
 
 fn usage() -> String {
@@ -19,7 +21,7 @@ fn usage() -> String {
             form.words()
         );
     }
-    text + "       pewgull help | --help | --version\n"
+    text + "       pewgull help (all lines, keys, ranges, refusals) | --help | --version\n"
 }
 
 fn commands() -> String {
@@ -48,10 +50,8 @@ Exit status: 0 an answer; 1 a refusal; 2 a file or usage error
 /// What `--help` prints: a screen.
 pub fn short() -> String {
     format!(
-        "{}\n{}help     prints all lines, keys, units, ranges and refusals\n\
-         --json   prints one JSON object for each file, on a line of its own\n\
-         FILE     a plant file: text, one 'key value' per line, # starts a comment;\n         \
-         - is standard input; examples/case-a.plant has every key\n\
+        "{}\n{}--json   prints one JSON object for each file, on a line of its own\n\
+         FILE     a plant file (examples/case-a.plant has every key); - is standard input\n\
          LOG      a day log; with --csv a text file, flow and BOD in a line for each day\n\
          {}{STATUS}\
          Example: pewgull examine examples/case-a.plant 300 75 20\n",
@@ -73,6 +73,7 @@ pub fn manual() -> String {
          A candidate that is not permitted is counted at the first rule that it breaks.\n",
         COUNTED.map(census::label).join(", ")
     );
+    text += &works();
     text += &day_log();
     text += "\nThe line of a target\n  \
              target         lowest nitrate target in force that day, mg/m3; 0: no term runs\n";
@@ -88,7 +89,9 @@ pub fn manual() -> String {
 
 /// The keys of a plant file, and what their values are.
 fn keys() -> String {
-    let mut text = "\nThe keys of a plant file\n".to_string();
+    let mut text =
+        "\nThe keys of a plant file: text, one 'key value' per line, # starts a comment\n"
+            .to_string();
     for key in &KEYS {
         let (name, meaning) = (key.name, key.meaning);
         text += &match &key.field {
@@ -98,17 +101,19 @@ fn keys() -> String {
             }
             Field::Word(words, _) => format!("  {name:<21} {}\n", wrapped(words, 24)),
             Field::Term => format!("  {name:<21} {meaning:<25} {TERM_WORDS}\n"),
+            Field::Shares => format!("  {name:<21} {meaning:<25} {SHARES_WORDS}\n"),
         };
     }
     text + &format!(
-        "May be left out, with the value that then counts: {}.\n\
+        "May be left out, with the value that then counts:\n  {}.\n\
          A reading is 'measured X', 'below X' (half of X counts) or 'heads N', N in\n\
          {}; X in mg/l, or bits: and the eight hex digits of an f32. Its range is\n\
-         that of the concentration that comes out.\n{}{}",
+         that of the concentration that comes out.\n{}{}{}",
         optional(),
         HEADS.digits(),
         term(),
-        way()
+        way(),
+        shares()
     )
 }
 
@@ -120,6 +125,27 @@ fn way() -> String {
          simultaneous and the intermittent process the nitrate that the tank's own carbon\n\
          removes is reckoned from the COD too: explain has it as nitrate-removed-by-cod,\n\
          with --json under its key nitrate-removed-by-bod.\n"
+    )
+}
+
+/// The lines of a works.
+fn works() -> String {
+    format!(
+        "\nThe lines of a works\n  {}\n\
+         Each is the sum over the works' lines. Then '# line 1' and its sheet, and so on.\n",
+        SUMS.join(", ")
+    )
+}
+
+/// What the shares split.
+fn shares() -> String {
+    format!(
+        "'shares' is for the command works, and the others do not look at it:\n\
+         {}.\n\
+         They split {} among lines side by side; all\n\
+         else is the whole works', the load and the concentrations too.\n",
+        shares_expected(),
+        listed(&SPLIT.map(String::from))
     )
 }
 

@@ -1,13 +1,20 @@
-//! JSON objects of whole numbers and words.
+//! JSON objects of whole numbers, words and lists of such objects.
 
 /// A value of an object.
 pub enum Value {
     Number(u64),
     Text(String),
+    /// Objects, in their order
+    List(Vec<Vec<Member>>),
 }
 
 /// A key and its value.
 pub type Member = (String, Value);
+
+/// A member whose value is a whole number.
+pub fn number(key: &str, value: impl Into<u64>) -> Member {
+    (key.to_string(), Value::Number(value.into()))
+}
 
 /// A member whose value is text.
 pub fn text(key: &str, value: &str) -> Member {
@@ -16,14 +23,26 @@ pub fn text(key: &str, value: &str) -> Member {
 
 /// One object on a line.
 pub fn object(members: &[Member]) -> String {
+    braced(members) + "\n"
+}
+
+fn braced(members: &[Member]) -> String {
     let members: Vec<String> = members
         .iter()
-        .map(|(key, value)| match value {
-            Value::Number(number) => format!("{}: {number}", quoted(key)),
-            Value::Text(text) => format!("{}: {}", quoted(key), quoted(text)),
-        })
+        .map(|(key, value)| format!("{}: {}", quoted(key), written(value)))
         .collect();
-    format!("{{{}}}\n", members.join(", "))
+    format!("{{{}}}", members.join(", "))
+}
+
+fn written(value: &Value) -> String {
+    match value {
+        Value::Number(number) => number.to_string(),
+        Value::Text(text) => quoted(text),
+        Value::List(objects) => {
+            let objects: Vec<String> = objects.iter().map(|object| braced(object)).collect();
+            format!("[{}]", objects.join(", "))
+        }
+    }
 }
 
 /// The labels and numbers of a listing.
@@ -61,6 +80,16 @@ mod tests {
     fn a_listing_becomes_an_object() {
         let object = object(&members("fraction 300\nreturn 75\n"));
         assert_eq!(object, "{\"fraction\": 300, \"return\": 75}\n");
+    }
+
+    #[test]
+    fn a_list_of_objects() {
+        let line = |line: u32| vec![number("line", line), text("word", "w")];
+        let list = |lines| object(&[("lines".to_string(), Value::List(lines))]);
+        let expected = "{\"lines\": [{\"line\": 1, \"word\": \"w\"}, \
+            {\"line\": 2, \"word\": \"w\"}]}\n";
+        assert_eq!(list(vec![line(1), line(2)]), expected);
+        assert_eq!(list(Vec::new()), "{\"lines\": []}\n");
     }
 
     #[test]

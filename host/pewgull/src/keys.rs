@@ -1,7 +1,10 @@
 //! The keys of a plant file, in the order of the request's words.
 
+use crate::plant_file::PlantFile;
 use crate::values;
 use library::{Precipitant, PrimarySettling, Process, Reading, Removal, Request, TankFlow, Way};
+use library::{LEAST_LINES, LEAST_SHARE, MOST_LINES, WHOLE};
+use std::str::SplitWhitespace;
 
 /// A range of whole numbers and what they count.
 #[derive(Clone, Copy, Debug, PartialEq, Eq)]
@@ -29,7 +32,7 @@ pub const HEADS: Range = Range {
     unit: "heads",
 };
 
-/// What a key takes, and where it goes in the request.
+/// What a key takes, and where it goes.
 pub enum Field {
     /// A whole number in this range
     Whole(Range, fn(&mut Request) -> &mut u32),
@@ -39,6 +42,8 @@ pub enum Field {
     Reading(Range, fn(&mut Request) -> &mut Reading),
     /// A term of the consent, one more with each line
     Term,
+    /// The shares of a works' lines, which are no data of the plant
+    Shares,
 }
 
 /// How often a key is given.
@@ -48,6 +53,8 @@ pub enum Given {
     Once,
     /// Once, or left out: this value counts then
     OnceOr(&'static str),
+    /// Once, or left out: nothing counts then
+    OnceOrNone,
     /// As often as there are such lines, in their order
     Often,
 }
@@ -155,9 +162,19 @@ pub const TERM_TARGET: Range = Range {
 };
 /// The words of a term's line after the key.
 pub const TERM_WORDS: &str = "MM-DD MM-DD TEMPERATURE TARGET";
+/// The words after the key of the shares.
+pub const SHARES_WORDS: &str = "SHARE SHARE ...";
+
+/// What is expected of the shares of a works.
+pub fn shares_expected() -> String {
+    format!(
+        "{LEAST_LINES} to {MOST_LINES} shares in thousandths, each at least {LEAST_SHARE}, \
+         adding up to {WHOLE}"
+    )
+}
 
 #[rustfmt::skip]
-pub const KEYS: [Key; 26] = [
+pub const KEYS: [Key; 27] = [
     whole("load", "raw BOD5 load", (1, 100_000, "kg/d"), |r| &mut r.load),
     whole("flow", "daily flow", (1, 200_000, "m3/d"), |r| &mut r.flow),
     whole("wet-weather-flow", "wet weather flow", (1, 50_000, "m3/h"), |r| &mut r.wet_weather_flow),
@@ -184,12 +201,19 @@ pub const KEYS: [Key; 26] = [
     whole("dose", "dose of external carbon", DOSE, |r| &mut r.dose).optional("0"),
     required("term", "term of the consent", Field::Term).repeated(),
     word("way", "way of sludge and oxygen", &["bod", "cod"], |r, i| r.way = WAYS[i]).optional("bod"),
+    required("shares", "shares of a works' lines", Field::Shares).or_none(),
 ];
 
 impl Key {
     /// The same key, which may be left out: this value counts then.
     const fn optional(self, value: &'static str) -> Key {
         let given = Given::OnceOr(value);
+        Key { given, ..self }
+    }
+
+    /// The same key, which may be left out: nothing counts then.
+    const fn or_none(self) -> Key {
+        let given = Given::OnceOrNone;
         Key { given, ..self }
     }
 
@@ -204,7 +228,7 @@ impl Key {
         match self.given {
             Given::Once => None,
             Given::OnceOr(value) => Some(value),
-            Given::Often => Some("none"),
+            Given::OnceOrNone | Given::Often => Some("none"),
         }
     }
 
@@ -234,20 +258,31 @@ impl Key {
                 TERM_TARGET.digits(),
                 TERM_TARGET.unit
             ),
+            Field::Shares => format!(
+                "'{name} {SHARES_WORDS}', whole numbers: {}",
+                shares_expected()
+            ),
         }
     }
 
-    /// Puts the value into the request. The error says what is wrong.
-    pub fn put(&self, request: &mut Request, value: &[&str]) -> Result<(), String> {
+    /// Puts the value, given by its words, into what the file holds. The error
+    /// says what is wrong.
+    pub fn put(&self, file: &mut PlantFile, words: SplitWhitespace) -> Result<(), String> {
+        let value: Vec<&str> = words.clone().take(MOST_WORDS).collect();
+        let request = &mut file.request;
         match &self.field {
-            Field::Whole(_, field) => *field(request) = values::whole(single(value)?)?,
-            Field::Word(words, set) => set(request, place(words, single(value)?)?),
-            Field::Reading(_, field) => *field(request) = values::reading(value)?,
-            Field::Term => request.terms.push(values::term(value)?),
+            Field::Whole(_, field) => *field(request) = values::whole(single(&value)?)?,
+            Field::Word(words, set) => set(request, place(words, single(&value)?)?),
+            Field::Reading(_, field) => *field(request) = values::reading(&value)?,
+            Field::Term => request.terms.push(values::term(&value)?),
+            Field::Shares => file.shares = values::shares(words)?,
         }
         Ok(())
     }
 }
+
+/// Words of a value that are looked at, but of shares; no other takes so many.
+const MOST_WORDS: usize = 8;
 
 /// The only word of a value.
 fn single<'a>(value: &[&'a str]) -> Result<&'a str, String> {
@@ -310,8 +345,8 @@ mod tests {
     fn a_default_is_a_value_of_its_key() {
         for key in &KEYS {
             if let Given::OnceOr(value) = key.given {
-                let words: Vec<&str> = value.split(' ').collect();
-                assert_eq!(key.put(&mut Request::default(), &words), Ok(()));
+                let words = value.split_whitespace();
+                assert_eq!(key.put(&mut PlantFile::default(), words), Ok(()));
             }
         }
     }
@@ -331,6 +366,7 @@ mod tests {
         assert_eq!(similar("wet_weather_flow"), Some("wet-weather-flow"));
         assert_eq!(similar("nitrate-taget"), Some("nitrate-target"));
         assert_eq!(similar("Way"), Some("way"));
+        assert_eq!(similar("Share"), Some("shares"));
         for word in ["", "x", "xyz", "temperature", "load=1200"] {
             assert_eq!(similar(word), None, "{word}");
         }

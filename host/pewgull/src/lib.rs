@@ -17,3 +17,4 @@ pub mod run;
 pub mod season;
 pub mod text_file;
 pub mod values;
+pub mod works;

@@ -3,7 +3,8 @@
 
 use crate::culprit::short;
 use crate::day_file::Log;
-use library::number::{self, DAY_LOG, DAY_VALUE};
+use crate::refusal::headed;
+use library::number::{DAY_LOG, DAY_VALUE};
 use library::{LEAST_DAYS, MOST_BOD, MOST_DAYS, MOST_FLOW};
 
 /// Bytes of the count, and of a day.
@@ -19,8 +20,7 @@ pub fn words(number: u32, log: &Log) -> String {
         DAY_VALUE => values(log),
         _ => String::new(),
     };
-    let word = number::word(number).unwrap_or("unknown");
-    format!("refused {number} ({word}): {text}")
+    headed(number, &text)
 }
 
 /// The 32-bit numbers of the log, the count first.

@@ -8,13 +8,12 @@ use library::{Request, MOST_TERMS};
 /// What is expected of a file.
 const EXPECTED: &str = "a plant file";
 
-/// Words of a line that are looked at; no key takes so many.
-const MOST_WORDS: usize = 8;
-
 /// What a plant file holds.
 #[derive(Default)]
 pub struct PlantFile {
     pub request: Request,
+    /// Of the lines of a works, thousandths; none where the key is left out
+    pub shares: Vec<u32>,
     /// Where the terms stand: as many as may be there, and one more
     pub term_lines: Vec<usize>,
 }
@@ -37,7 +36,7 @@ type FirstLines = [Option<usize>; KEYS.len()];
 /// Reads every line, and then fills in what no line has.
 fn read(
     bytes: &[u8],
-    fill: fn(&mut Request, &FirstLines) -> Result<(), String>,
+    fill: fn(&mut PlantFile, &FirstLines) -> Result<(), String>,
 ) -> Result<PlantFile, Vec<Fault>> {
     let text = text(bytes, EXPECTED).map_err(|fault| vec![fault])?;
     let mut file = PlantFile::default();
@@ -50,16 +49,11 @@ fn read(
             faults.add(last, what);
         }
     }
-    if let Err(what) = fill(&mut file.request, &first_lines) {
+    if let Err(what) = fill(&mut file, &first_lines) {
         faults.add(last, what);
     }
     faults.none_or(EXPECTED)?;
     Ok(file)
-}
-
-/// The words of a line or of a default.
-fn words(content: &str) -> Vec<&str> {
-    content.split_whitespace().take(MOST_WORDS).collect()
 }
 
 /// Reads one line.
@@ -70,11 +64,11 @@ fn read_line(
     first_lines: &mut FirstLines,
 ) -> Result<(), String> {
     let content = line.split('#').next().unwrap_or_default();
-    let words = words(content);
-    let Some((name, value)) = words.split_first() else {
+    let mut words = content.split_whitespace();
+    let Some(name) = words.next() else {
         return Ok(());
     };
-    let Some(place) = KEYS.iter().position(|key| key.name == *name) else {
+    let Some(place) = KEYS.iter().position(|key| key.name == name) else {
         return Err(unknown(name));
     };
     let key = &KEYS[place];
@@ -88,7 +82,7 @@ fn read_line(
         }
     }
     first_lines[place] = Some(number);
-    key.put(&mut file.request, value)
+    key.put(file, words)
         .map_err(|wrong| format!("{wrong}; expected {}", key.expected()))
 }
 
@@ -103,12 +97,12 @@ fn unknown(name: &str) -> String {
 
 /// Puts in the defaults of the keys that no line has. The error names the
 /// keys without a default.
-fn fill(request: &mut Request, first_lines: &FirstLines) -> Result<(), String> {
+fn fill(file: &mut PlantFile, first_lines: &FirstLines) -> Result<(), String> {
     let mut missing = Vec::new();
     for (key, line) in KEYS.iter().zip(first_lines) {
         match (line, key.given) {
-            (Some(_), _) | (None, Given::Often) => {}
-            (None, Given::OnceOr(value)) => key.put(request, &words(value))?,
+            (Some(_), _) | (None, Given::OnceOrNone | Given::Often) => {}
+            (None, Given::OnceOr(value)) => key.put(file, value.split_whitespace())?,
             (None, Given::Once) => missing.push(key),
         }
     }

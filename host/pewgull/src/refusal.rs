@@ -32,8 +32,7 @@ pub fn words(number: u32, file: &PlantFile, candidate: Option<Candidate>) -> Str
             )
         }),
     };
-    let word = number::word(number).unwrap_or("unknown");
-    let mut message = format!("refused {number} ({word}): {text}");
+    let mut message = headed(number, &text);
     for line in culprit::lines(number, file) {
         message += &format!("\n  {line}");
     }
@@ -41,6 +40,12 @@ pub fn words(number: u32, file: &PlantFile, candidate: Option<Candidate>) -> Str
         message += COD_WAY;
     }
     message
+}
+
+/// A refusal's number, its word, and what is said of it.
+pub fn headed(number: u32, text: &str) -> String {
+    let word = number::word(number).unwrap_or("unknown");
+    format!("refused {number} ({word}): {text}")
 }
 
 /// What to do at refusal 4.
@@ -54,18 +59,27 @@ fn flow_name(tank: TankFlow) -> &'static str {
     }
 }
 
-/// The census, and what to look at first.
-fn no_design(request: &Request) -> String {
+/// How many candidates the grid holds, where none is permitted.
+pub fn none_permitted(request: &Request) -> String {
     let count = candidates(request.tank);
-    let advice = census::counts(request).map(|counts| census::advice(request, &counts));
     format!(
-        "the grid holds {},{:03} candidates in {} flow, and none is permitted.{}",
+        "the grid holds {},{:03} candidates in {} flow, and none is permitted.",
         count / 1000,
         count % 1000,
-        flow_name(request.tank),
-        advice.unwrap_or_default()
+        flow_name(request.tank)
     )
 }
+
+/// The census, and what to look at first.
+fn no_design(request: &Request) -> String {
+    let counts = census::counts(request);
+    let advice = counts.map(|counts| census::advice(request, &counts) + EXPLAIN);
+    none_permitted(request) + &advice.unwrap_or_default()
+}
+
+/// Where to look next at refusal 5.
+const EXPLAIN: &str =
+    "\n  'pewgull explain FILE F R H' shows how far a candidate is from its limits";
 
 /// The sides of the grid that the candidate is not on.
 fn off_grid(tank: TankFlow, candidate: Option<Candidate>) -> String {

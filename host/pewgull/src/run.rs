@@ -4,13 +4,15 @@ use crate::answer::Answer;
 use crate::arguments::{Command, Task};
 use crate::consent;
 use crate::day_file::{self, Log};
-use crate::json::{self, Member, Value};
+use crate::json::{self, Member};
 use crate::load;
 use crate::plant_file::{self, PlantFile};
 use crate::refusal;
 use crate::text_file::Fault;
 use crate::values::escaped;
+use crate::works;
 use library::number::{self, is_refusal, SHEET};
+use library::Split;
 use std::ffi::OsStr;
 use std::fs::File;
 use std::io::{self, ErrorKind, Read};
@@ -100,6 +102,13 @@ fn found(command: &Command, file: &OsStr, name: &str) -> Result<Found, Vec<Strin
                 consent::words(number, &plant, date)
             })
         }
+        Task::Works(call) => {
+            let plant = read(file, name, plant_file::parse)?;
+            let split = Split::of(&plant.shares);
+            settled(call(&plant.request, &split), name, |number| {
+                works::words(number, &plant)
+            })
+        }
     }
 }
 
@@ -132,15 +141,17 @@ fn settled(
 
 fn refused(answer: Answer, message: String) -> Found {
     let number = answer.number;
+    let mut members = vec![
+        json::text("status", "refused"),
+        json::number("number", number),
+        json::text("word", number::word(number).unwrap_or_default()),
+    ];
+    members.extend(answer.members);
+    members.push(json::text("message", &message));
     Found {
         status: REFUSED,
         text: answer.text,
-        members: vec![
-            json::text("status", "refused"),
-            ("number".to_string(), Value::Number(number.into())),
-            json::text("word", number::word(number).unwrap_or_default()),
-            json::text("message", &message),
-        ],
+        members,
         messages: vec![message],
     }
 }

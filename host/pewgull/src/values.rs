@@ -70,6 +70,16 @@ pub fn term(words: &[&str]) -> Result<Term, String> {
     }
 }
 
+/// Shares of a works' lines, one or more. How many there may be, and what they
+/// add up to, is the library's answer.
+pub fn shares<'a>(words: impl Iterator<Item = &'a str>) -> Result<Vec<u32>, String> {
+    let shares: Vec<u32> = words.map(whole).collect::<Result<_, _>>()?;
+    match shares.is_empty() {
+        true => Err("the value is missing".to_string()),
+        false => Ok(shares),
+    }
+}
+
 /// A word of the file as it can stand in a message: short, and without
 /// control characters.
 pub fn shown(word: &str) -> String {
@@ -261,6 +271,23 @@ mod tests {
         ];
         for (words, expected) in wrong {
             assert!(term(words).unwrap_err().contains(expected), "{words:?}");
+        }
+    }
+
+    #[test]
+    fn shares_of_lines() {
+        let of = |text: &str| shares(text.split_whitespace());
+        assert_eq!(of("400 350 250"), Ok(vec![400, 350, 250]));
+        assert_eq!(of("0 4294967295"), Ok(vec![0, u32::MAX]));
+        assert_eq!(of(&"7 ".repeat(9)), Ok(vec![7; 9]));
+        for (text, wrong) in [
+            ("", "the value is missing"),
+            ("400 60%", "'60%' is not a whole number"),
+            ("0.4 0.6", "'0.4' is not a whole number"),
+            ("400, 600", "'400,' is not a whole number"),
+            ("4294967296", "'4294967296' is too large"),
+        ] {
+            assert_eq!(of(text), Err(wrong.to_string()), "{text}");
         }
     }
 

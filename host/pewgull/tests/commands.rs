@@ -553,9 +553,9 @@ fn several_files_have_headings_and_the_largest_status() {
 }
 
 #[rustfmt::skip]
-const USAGE_ERRORS: [(&str, &str); 18] = [
-    ("", "no command; expected choose, examine, explain, census, load, target or help"),
-    ("chose", "'chose' is no command; expected choose, examine, explain, census, load, target or help"),
+const USAGE_ERRORS: [(&str, &str); 20] = [
+    ("", "no command; expected choose, examine, explain, census, load, target, works or help"),
+    ("chose", "'chose' is no command; expected choose, examine, explain, census, load, target, works or help"),
     ("load --csv", "expected load [--csv] LOG..."),
     ("choose --csv F", "--csv is for the command load alone"),
     ("target --csv F 01-01", "--csv is for the command load alone"),
@@ -565,6 +565,8 @@ const USAGE_ERRORS: [(&str, &str); 18] = [
     ("target F 2026-01-01", "'2026-01-01' is not a date MM-DD; expected month and day"),
     ("choose", "expected choose FILE..."),
     ("census --json", "expected census FILE..."),
+    ("works", "expected works FILE..."),
+    ("works --csv F", "--csv is for the command load alone"),
     ("choose --jsno F", "'--jsno' is no option; expected --json, --csv, --help or --version"),
     ("examine F", "expected examine FILE F R H, one file and three numbers (words given: 1)"),
     ("explain F 300 75", "expected explain FILE F R H"),

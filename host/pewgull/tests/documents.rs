@@ -6,12 +6,14 @@ use common::{pewgull, repository};
 use library::number;
 use library::sheet::{candidates, GRID, LINES};
 use library::{TankFlow, COUNTED, LEAST_DAYS, MOST_BOD, MOST_DAYS, MOST_FLOW, MOST_TERMS};
+use library::{LEAST_LINES, LEAST_SHARE, MOST_LINES, SUMS, WHOLE};
 use pewgull::arguments::COMMANDS;
 use pewgull::census::label;
 use pewgull::keys::{
-    Field, HEADS, KEYS, MOST_BULKING, MOST_DOSE_WITHOUT_SLUDGE, MOST_INDEX, TERM_TARGET,
-    TERM_TEMPERATURE, TERM_WORDS,
+    shares_expected, Field, HEADS, KEYS, MOST_BULKING, MOST_DOSE_WITHOUT_SLUDGE, MOST_INDEX,
+    SHARES_WORDS, TERM_TARGET, TERM_TEMPERATURE, TERM_WORDS,
 };
+use pewgull::works::SPLIT;
 use std::fs;
 
 fn document(name: &str) -> String {
@@ -28,18 +30,33 @@ fn has(document: &str, name: &str, part: &str) {
     assert!(document.contains(part), "{name} has no '{part}'");
 }
 
-/// README.md shows the command on an example, with what it prints.
-fn shows(command: &str) {
+/// What a command on an example prints.
+fn printed(command: &str) -> String {
     let path = |word: &str| match word.starts_with("examples/") {
         true => repository().join(word).to_str().unwrap().to_string(),
         false => word.to_string(),
     };
     let words: Vec<String> = command.split(' ').map(path).collect();
     let words: Vec<&str> = words.iter().map(String::as_str).collect();
-    let ran = pewgull(&words);
-    let shown = format!("    $ pewgull {command}\n{}", ran.out);
-    let shown = shown.trim_end().replace('\n', "\n    ");
-    has(&document("README.md"), "README.md", &shown);
+    pewgull(&words).out
+}
+
+/// README.md shows the command on an example, with what it prints.
+fn shows(command: &str) {
+    let lines = printed(command).lines().count();
+    shows_first(command, lines);
+}
+
+/// README.md shows the command on an example, with the first lines of what it
+/// prints, and dots for the rest.
+fn shows_first(command: &str, lines: usize) {
+    let printed = printed(command);
+    let dots = (printed.lines().count() > lines).then_some("...");
+    let shown = printed.lines().take(lines).chain(dots);
+    let shown = shown.fold(format!("    $ pewgull {command}"), |text, line| {
+        text + "\n    " + line
+    });
+    has(&document("README.md"), "README.md", &(shown + "\n"));
 }
 
 #[test]
@@ -87,6 +104,10 @@ fn keys() {
             Field::Term => {
                 has(&help, "help", &format!(" {name} {meaning} {TERM_WORDS} "));
                 TERM_WORDS.to_string()
+            }
+            Field::Shares => {
+                has(&help, "help", &format!(" {name} {meaning} {SHARES_WORDS} "));
+                SHARES_WORDS.to_string()
             }
         };
         let default = match key.left_out() {
@@ -230,6 +251,42 @@ fn bulking_sludge() {
     has(&header, "the header", &gets);
 }
 
+/// The shares, what they split, the sums and sheets at their bytes, and the
+/// example.
+#[test]
+fn works() {
+    let readme = plain(&document("README.md"));
+    let header = plain(&document("include/pewgull.h"));
+    let help = plain(&pewgull(&["help"]).out);
+    let expected = shares_expected();
+    has(&readme, "README.md", &expected);
+    has(&help, "help", &format!(" {expected}."));
+    let lines = format!("number of lines, {LEAST_LINES}..{MOST_LINES} ");
+    has(&header, "the header", &lines);
+    let shares = format!("each at least {LEAST_SHARE}, which add up to {WHOLE};");
+    has(&header, "the header", &shares);
+    for key in SPLIT {
+        let meaning = KEYS.iter().find(|known| known.name == key).unwrap().meaning;
+        let meaning = meaning.replace("largest settling", "site");
+        has(&header, "the header", &meaning);
+        has(&readme, "README.md", &format!("`{key}`"));
+    }
+    for (place, label) in SUMS.iter().enumerate() {
+        let unit = LINES.iter().find(|line| line.label == *label).unwrap().unit;
+        let (from, to) = (8 * place, 8 * place + 7);
+        let row = format!(" {from}..{to} {label}, {unit} ");
+        has(&header, "the header", &row);
+    }
+    let first = |line: usize| (8 * (SUMS.len() + line * LINES.len())).to_string();
+    let starts: Vec<String> = (0..MOST_LINES).map(first).collect();
+    let (last, others) = starts.split_last().unwrap();
+    let starts = format!("from byte {} and {last} on", others.join(", "));
+    has(&header, "the header", &starts);
+    has(&help, "help", &format!(" {} Each is ", SUMS.join(", ")));
+    let first_line = SUMS.len() + 1 + LINES.len() + 1;
+    shows_first("works examples/works-three-lines.plant", first_line);
+}
+
 /// The works short of BOD, without a dose and with one.
 #[test]
 fn dose() {
@@ -307,6 +364,9 @@ fn lengths() {
         ("LOAD_PAGE", library::LOAD_PAGE),
         ("TARGET_LENGTH", library::TARGET_LENGTH),
         ("TARGET_PAGE", library::TARGET_PAGE),
+        ("WORKS_LENGTH", library::WORKS_LENGTH),
+        ("LINE_LENGTH", library::LINE_LENGTH),
+        ("WORKS_PAGE", library::WORKS_PAGE),
     ] {
         has(
             &header,
@@ -315,7 +375,7 @@ fn lengths() {
         );
     }
     let (version, figures) = (library::VERSION, library::FIGURES_LENGTH);
-    let target = library::TARGET_PAGE;
+    let (target, works) = (library::TARGET_PAGE, library::WORKS_PAGE);
     for part in [
         format!("The request, version {version}: "),
         format!(" 0..3 version: {version} "),
@@ -323,6 +383,9 @@ fn lengths() {
         format!("fewer than {figures} bytes"),
         format!("writes {target} bytes of zeros"),
         format!("fewer than {target} bytes"),
+        format!("writes {works} bytes of zeros"),
+        format!("fewer than {works} bytes"),
+        format!("{} 64-bit unsigned numbers", works / 8),
     ] {
         has(&header, "the header", &part);
     }

@@ -9,7 +9,7 @@ use std::path::Path;
 use std::process::Command;
 
 /// Each file, its answer's first lines, and its exit status.
-const ANSWERS: [(&str, &str, i32); 14] = [
+const ANSWERS: [(&str, &str, i32); 15] = [
     ("bulking-sludge.plant", "refused 17\n", 1),
     (
         "case-a.plant",
@@ -68,6 +68,11 @@ const ANSWERS: [(&str, &str, i32); 14] = [
         "fraction 320\nreturn 75\nthickening 25\n",
         0,
     ),
+    (
+        "works-three-lines.plant",
+        "fraction 250\nreturn 75\nthickening 25\n",
+        0,
+    ),
 ];
 
 #[test]
@@ -118,15 +123,38 @@ fn winter_terms() {
     assert_eq!(data(&colder), terms("term 11-01 03-31 9 15000"));
     let chosen = |path: &str| pewgull(&["choose", path]).out;
     assert_eq!(chosen(&winter), chosen(&town));
-    let total = |path: &str| -> u32 {
-        let listing = chosen(path);
-        let mut lines = listing.lines();
-        let total = lines.find_map(|line| line.strip_prefix("total "));
-        total.unwrap().parse().unwrap()
-    };
+    let total = |path: &str| figure(&chosen(path), "total");
     assert_eq!(total(&colder), total(&winter) + 899);
     let ran = pewgull(&["examine", &colder, "320", "75", "25"]);
     assert_eq!(ran.out, "refused 16\n");
+}
+
+/// The number of a label in a listing.
+fn figure(listing: &str, label: &str) -> u64 {
+    let start = format!("{label} ");
+    let found = listing.lines().find_map(|line| line.strip_prefix(&start));
+    found.unwrap().parse().unwrap()
+}
+
+/// The city's three lines have the design of the whole works, and take 7 m3
+/// more than it takes as one plant.
+#[test]
+fn three_lines() {
+    let path = example("works-three-lines.plant");
+    let (works, one) = (pewgull(&["works", &path]), pewgull(&["choose", &path]));
+    assert_eq!((works.status, works.err.as_str()), (0, ""));
+    let parts: Vec<&str> = works.out.split("# line ").collect();
+    assert_eq!(parts.len(), 4);
+    for line in &parts[1..] {
+        for label in ["fraction", "return", "thickening", "age", "solids", "depth"] {
+            assert_eq!(figure(line, label), figure(&one.out, label), "{label}");
+        }
+    }
+    let total = figure(parts[0], "total");
+    assert_eq!(total, figure(&one.out, "total") + 7);
+    let readme = fs::read_to_string(repository().join("README.md")).unwrap();
+    let told = format!("{},{:03} m³", total / 1000, total % 1000);
+    assert!(readme.contains(&told), "{told}");
 }
 
 /// The two works short of BOD differ in the dose alone; without it the

@@ -186,6 +186,51 @@ fn lines_of_terms() {
     refused("terms-key.plant", text, 24, wrong, "expected 'term', or");
 }
 
+/// Left out, there are no shares; otherwise there may be any number of them,
+/// and no command but `works` looks at them.
+#[test]
+fn the_shares_of_lines() {
+    assert!(!CASE_A.contains("shares"));
+    for (place, line) in [
+        "shares 400 350 250",
+        "shares\t0400  600# two lines",
+        "shares 1000",
+        "shares 0 4294967295",
+        "shares 1 1 1 1 1 1 1 1 1 1 1 1",
+    ]
+    .iter()
+    .enumerate()
+    {
+        let name = format!("shares-{place}.plant");
+        accepted(&name, format!("{line}\n{CASE_A}"));
+    }
+    let ran = examine(&file("no-split.plant", ""));
+    assert!(!ran.err.contains("shares"), "{}", ran.err);
+    let expected =
+        "expected 'shares SHARE SHARE ...', whole numbers: 2 to 8 shares in thousandths, \
+                    each at least 1, adding up to 1000";
+    for (place, (line, wrong)) in [
+        ("shares", "the value is missing"),
+        ("shares # none", "the value is missing"),
+        ("shares 400 x", "'x' is not a whole number"),
+        ("shares 0.4 0.6", "'0.4' is not a whole number"),
+        ("shares 400, 600", "'400,' is not a whole number"),
+        ("shares 400 600 %", "'%' is not a whole number"),
+        ("shares 4294967296", "'4294967296' is too large"),
+        ("shares 1 1 1 1 1 1 1 1 1 -1", "'-1' is not a whole number"),
+    ]
+    .iter()
+    .enumerate()
+    {
+        let name = format!("bad-shares-{place}.plant");
+        let text = format!("{CASE_A}{line}\n");
+        refused(&name, text, 24, wrong, expected);
+    }
+    let wrong = "'share' is no key";
+    let text = format!("{CASE_A}share 400 600\n");
+    refused("share.plant", text, 24, wrong, "expected 'shares', or");
+}
+
 #[test]
 fn double_key() {
     let twice = format!("{CASE_A}flow 5000\n");
@@ -204,6 +249,15 @@ fn double_key() {
     let wrong = "key 'way' was given in line 1 already";
     refused(
         "double-way.plant",
+        twice,
+        25,
+        wrong,
+        "expected each key once",
+    );
+    let twice = format!("shares 500 500\n{CASE_A}shares 500 500\n");
+    let wrong = "key 'shares' was given in line 1 already";
+    refused(
+        "double-shares.plant",
         twice,
         25,
         wrong,
@@ -367,8 +421,14 @@ fn memory_for_a_long_file() {
         ("words.plant", "x ", 1),
         ("keys.plant", "load\n", 1),
         ("many-terms.plant", "term 1-1 1-1 4 1000\n", 52_428),
+        ("many-shares.plant", "1 ", 1),
     ] {
-        let path = file(name, part.repeat((1 << 20) / part.len()));
+        let start = match name {
+            "many-shares.plant" => "shares ",
+            _ => "",
+        };
+        let times = ((1 << 20) - start.len()) / part.len();
+        let path = file(name, start.to_string() + &part.repeat(times));
         let ran = common::ran(
             std::process::Command::new("sh")
                 .args(["-c", "ulimit -v 16000; exec \"$0\" choose \"$1\""])

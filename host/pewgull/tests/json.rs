@@ -5,19 +5,37 @@ mod common;
 
 use common::{example, file, pewgull, CASE_A, CASE_A_LISTING};
 
-/// Reads one object of text and whole numbers, by the grammar of JSON.
-fn object(line: &str) -> Option<Vec<(String, String)>> {
-    let mut rest = line.strip_prefix('{')?.trim_start();
-    let mut members = Vec::new();
+/// Reads one object of text, whole numbers and lists of objects, by the grammar
+/// of JSON: its members as the lines of a listing, a list as its objects in
+/// brackets.
+fn object(rest: &str) -> Option<(String, &str)> {
+    let mut rest = rest.strip_prefix('{')?.trim_start();
+    let mut members = String::new();
     loop {
         let (key, after) = text(rest)?;
         let after = after.trim_start().strip_prefix(':')?.trim_start();
-        let (value, after) = text(after).or_else(|| number(after))?;
-        members.push((key, value));
+        let value = text(after).or_else(|| number(after));
+        let (value, after) = value.or_else(|| list(after))?;
+        members += &format!("{key} {value}\n");
         let after = after.trim_start();
         match after.strip_prefix(',') {
             Some(next) => rest = next.trim_start(),
-            None => return (after == "}").then_some(members),
+            None => return Some((members, after.strip_prefix('}')?)),
+        }
+    }
+}
+
+/// One object or more.
+fn list(rest: &str) -> Option<(String, &str)> {
+    let mut rest = rest.strip_prefix('[')?.trim_start();
+    let mut objects = String::new();
+    loop {
+        let (members, after) = object(rest)?;
+        objects += &format!("[{members}]");
+        let after = after.trim_start();
+        match after.strip_prefix(',') {
+            Some(next) => rest = next.trim_start(),
+            None => return Some((objects, after.strip_prefix(']')?)),
         }
     }
 }
@@ -50,11 +68,9 @@ fn number(rest: &str) -> Option<(String, &str)> {
 
 /// The members as the lines of a listing.
 fn listing(line: &str) -> String {
-    let members = object(line).unwrap_or_else(|| panic!("not well-formed: {line}"));
+    let whole = object(line).filter(|(_, rest)| rest.is_empty());
+    let (members, _) = whole.unwrap_or_else(|| panic!("not well-formed: {line}"));
     members
-        .iter()
-        .map(|(key, value)| format!("{key} {value}\n"))
-        .collect()
 }
 
 #[test]
@@ -189,6 +205,49 @@ fn a_target() {
     let start = format!("file {path}\nstatus refused\nnumber 14\nword terms\nmessage ");
     let members = listing(ran.out.trim_end());
     assert!(members.starts_with(&start), "{members}");
+}
+
+/// The sums, and a list of the lines with their sheets: the text's lines.
+#[test]
+fn a_works() {
+    let path = example("works-three-lines.plant");
+    let ran = pewgull(&["works", "--json", &path]);
+    assert_eq!((ran.status, ran.out.lines().count()), (0, 1));
+    let printed = pewgull(&["works", &path]).out;
+    let parts: Vec<&str> = printed.split("# line ").collect();
+    let lines = parts[1..].iter().map(|line| format!("[line {line}]"));
+    let expected = format!(
+        "file {path}\nstatus works\n{}lines {}\n",
+        parts[0],
+        lines.collect::<String>()
+    );
+    assert_eq!(listing(ran.out.trim_end()), expected);
+}
+
+/// A refused works names its line where it is a line that is refused.
+#[test]
+fn a_refused_works() {
+    let narrow = CASE_A.replace("site-surface 1000", "site-surface 400");
+    let large = CASE_A.replace("load 1200", "load 100001");
+    for (text, shares, start) in [
+        (&narrow, "500 500", "status works\n"),
+        (&narrow, "4 996", "number 5\nword no design\nline 1\n"),
+        (&narrow, "990 7 3", "number 5\nword no design\nline 2\n"),
+        (&narrow, "1 3 996", "number 1\nword plant data\nline 1\n"),
+        (&narrow, "1000", "number 18\nword lines\nmessage "),
+        (&large, "1 999", "number 1\nword plant data\nmessage "),
+    ] {
+        let path = file("json-works.plant", format!("{text}shares {shares}\n"));
+        let ran = pewgull(&["works", "--json", &path]);
+        let members = listing(ran.out.trim_end());
+        let rest = members.strip_prefix(&format!("file {path}\n")).unwrap();
+        let rest = rest.strip_prefix("status refused\n").unwrap_or(rest);
+        assert!(rest.starts_with(start), "{shares}: {members}");
+        if ran.status == 1 {
+            let (_, message) = members.split_once("message ").unwrap();
+            assert_eq!(ran.err, format!("pewgull: {message}"));
+        }
+    }
 }
 
 /// One object for each file, whatever comes of it.

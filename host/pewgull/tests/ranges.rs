@@ -4,12 +4,16 @@
 mod common;
 
 use common::CASE_A;
-use library::number::{BULKING, COD_RATIO, NO_NUMBER, PLANT_DATA, READING_RANGE, SHEET, TERMS};
-use library::{examine, explain, target, Candidate, Date, Reading, Request, Term, Terms, Way};
-use library::{FIGURES_LENGTH, MOST_TERMS, PAGE_LENGTH, TARGET_PAGE};
+use library::number::{BULKING, COD_RATIO, LINES, NO_DESIGN, NO_NUMBER};
+use library::number::{PLANT_DATA, READING_RANGE, SHEET, TERMS};
+use library::{choose, examine, explain, line, target, works};
+use library::{Candidate, Date, Reading, Request, Split, Term, Terms, Way};
+use library::{FIGURES_LENGTH, MOST_TERMS, PAGE_LENGTH, TARGET_PAGE, WORKS_PAGE};
+use library::{LEAST_LINES, LEAST_SHARE, MOST_LINES, WHOLE};
 use pewgull::keys::{Field, Range, HEADS, KEYS, MOST_BULKING, MOST_DOSE_WITHOUT_SLUDGE};
 use pewgull::keys::{TERM_TARGET, TERM_TEMPERATURE};
 use pewgull::plant_file::{self, PlantFile};
+use pewgull::works::{plant, refused_lines, Refused};
 use pewgull::{consent, culprit};
 
 fn case_a() -> Request {
@@ -288,6 +292,7 @@ fn file(request: Request) -> PlantFile {
     PlantFile {
         request,
         term_lines,
+        ..PlantFile::default()
     }
 }
 
@@ -346,4 +351,155 @@ fn faults_are_found_where_a_target_is_refused() {
         counts[usize::from(found)] += 1;
     }
     assert!(counts.iter().all(|count| *count > 500), "{counts:?}");
+}
+
+/// The number that a works gets.
+fn works_number(request: &Request, split: &Split) -> u32 {
+    works(&request.to_works(split), &mut [0; WORKS_PAGE]).0
+}
+
+/// As many equal shares as there are lines, the last with the rest.
+fn shares(lines: usize, sum: u32) -> Vec<u32> {
+    let mut shares = vec![sum / lines as u32; lines];
+    shares[lines - 1] += sum % lines as u32;
+    shares
+}
+
+#[test]
+fn share_ranges() {
+    for (lines, due) in [
+        (LEAST_LINES - 1, LINES),
+        (LEAST_LINES, SHEET),
+        (MOST_LINES, SHEET),
+        (MOST_LINES + 1, LINES),
+    ] {
+        let split = Split::of(&shares(lines, WHOLE));
+        assert_eq!(works_number(&case_a(), &split), due, "{lines} lines");
+    }
+    for (sum, due) in [(WHOLE - 1, LINES), (WHOLE, SHEET), (WHOLE + 1, LINES)] {
+        let split = Split::of(&shares(3, sum));
+        assert_eq!(works_number(&case_a(), &split), due, "a sum of {sum}");
+    }
+    let mut large = case_a();
+    large.wet_weather_flow = 5_000;
+    large.site_surface = 10_000;
+    for (share, due) in [(LEAST_SHARE - 1, LINES), (LEAST_SHARE, SHEET)] {
+        let split = Split::of(&[share, WHOLE - share]);
+        assert_eq!(works_number(&large, &split), due, "a share of {share}");
+    }
+}
+
+/// Shares that mostly add up, some of them small.
+fn odd_split(random: &mut Random) -> Split {
+    let lines = random.pick(&[1, 2, 2, 3, 3, 4, 5, 6, 7, 8, 8, 9]);
+    let mut left = WHOLE;
+    let mut shares = Vec::new();
+    for line in 1..lines {
+        let most = left - (lines - line);
+        let share = match random.next() % 4 {
+            0 => 1,
+            1 => random.next() % 8,
+            _ => 1 + random.next() % most,
+        };
+        shares.push(share.min(most));
+        left -= share.min(most);
+    }
+    shares.push(left + u32::from(random.next() % 16 == 0));
+    Split::of(&shares)
+}
+
+/// Case A or smaller, its readings now and then by heads, in a site that may
+/// be narrow.
+fn odd_works(random: &mut Random) -> Request {
+    let mut request = match random.next() % 8 {
+        0 => odd_request(random),
+        _ => case_a(),
+    };
+    if random.next() % 2 == 0 {
+        request.flow = 1 + random.next() % 5_000;
+        request.wet_weather_flow = 1 + random.next() % 600;
+        request.site_surface = 1 + request.wet_weather_flow * 2 / 3 + random.next() % 20;
+    }
+    if random.next() % 2 == 0 {
+        let heads = request.flow * (3_200 + random.next() % 200) / 1_000;
+        (request.bod, request.cod) = (Reading::Heads(heads), Reading::Heads(heads));
+        request.nitrogen = Reading::Heads(heads * random.pick(&[9, 9, 9, 20]) / 10);
+    }
+    request
+}
+
+/// A line is the plant that the tool takes it for: the library chooses for that
+/// plant as it answers for the line. The first refused line gives the works its
+/// number; where none is named, the split or the whole data are refused.
+#[test]
+fn a_line_is_a_plant_of_its_own() {
+    let mut random = Random(8);
+    let mut counts = [0; 4];
+    for _ in 0..2_000 {
+        let (request, split) = (odd_works(&mut random), odd_split(&mut random));
+        let due = works_number(&request, &split);
+        let refused = refused_lines(&request, &split);
+        let known = [SHEET, LINES, PLANT_DATA, NO_DESIGN];
+        if let Some(place) = known.iter().position(|number| *number == due) {
+            counts[place] += 1;
+        }
+        let by_whole = due == LINES || number(&request) != SHEET;
+        assert_eq!(refused.is_empty(), by_whole || due == SHEET);
+        if by_whole {
+            continue;
+        }
+        assert_eq!(refused.first().map_or(SHEET, |first| first.number), due);
+        for number in 1..=split.count {
+            let (mut own, mut chosen) = ([0; PAGE_LENGTH], [0; PAGE_LENGTH]);
+            let answer = line(&request.to_line(&split, number), &mut own);
+            let bytes = plant(&request, &split, number).to_choose();
+            assert_eq!(answer, choose(&bytes, &mut chosen), "{request:?} {split:?}");
+            assert_eq!(own, chosen);
+            let named = Refused {
+                line: number,
+                number: answer.0,
+            };
+            assert_eq!(refused.contains(&named), answer.0 != SHEET);
+        }
+    }
+    assert!(counts.iter().all(|count| *count > 100), "{counts:?}");
+}
+
+/// A plant whose head counts are measured readings gets the same figures and
+/// sheets.
+#[test]
+fn head_counts_as_measured_readings() {
+    let mut random = Random(600);
+    let mut accepted = 0;
+    for _ in 0..20_000 {
+        let mut request = case_a();
+        request.way = random.pick(&[Way::Bod, Way::Cod]);
+        request.flow = 1 + random.next() % 200_000;
+        for at in readings() {
+            if random.next() % 2 == 0 {
+                let heads = u64::from(request.flow) * u64::from(random.next() % 8_000) / 1_000;
+                *at(&mut request) = Reading::Heads(1 + heads as u32);
+            }
+        }
+        if number(&request) != SHEET {
+            continue;
+        }
+        accepted += 1;
+        let measured = culprit::measured(&request);
+        let heads = |reading: Reading| matches!(reading, Reading::Heads(_));
+        assert!(!readings().iter().any(|at| heads(*at(&mut { measured }))));
+        let figures = |request: &Request| {
+            let mut page = [0; FIGURES_LENGTH];
+            explain(&request.to_examine(CANDIDATE), &mut page);
+            page
+        };
+        let sheet = |request: &Request| {
+            let mut page = [0; PAGE_LENGTH];
+            examine(&request.to_examine(CANDIDATE), &mut page);
+            page
+        };
+        assert_eq!(figures(&request), figures(&measured));
+        assert_eq!(sheet(&request), sheet(&measured));
+    }
+    assert!(accepted > 2_000, "{accepted}");
 }

@@ -34,14 +34,9 @@ fn better(best: Option<Sheet>, next: Sheet) -> Option<Sheet> {
     }
 }
 
-/// Acceptance, then every candidate of the grid in turn: its sheet, or the
-/// number of its refusal.
-fn sweep(
-    plant: &Plant,
-    readings: &[Reading; 5],
-    mut each: impl FnMut(Result<Sheet, u8>),
-) -> Result<(), u8> {
-    let accepted = accept(plant, readings)?;
+/// Every candidate of the grid in turn, on accepted concentrations: its sheet,
+/// or the number of its refusal.
+fn sweep(plant: &Plant, accepted: &[u64; 5], mut each: impl FnMut(Result<Sheet, u8>)) {
     let roots = cube_roots();
     for fraction in 200..=500 {
         for return_ratio in 30..=most_return(plant.tank_flow) {
@@ -52,25 +47,31 @@ fn sweep(
                     thickening,
                 };
                 let root = roots[thickening as usize - 20];
-                each(design(plant, &accepted, candidate, root));
+                each(design(plant, accepted, candidate, root));
             }
         }
     }
-    Ok(())
 }
 
-/// The first of all permitted candidates, or a refusal.
-pub fn choose(plant: &Plant, readings: &[Reading; 5]) -> Answer {
+/// The first of all permitted candidates on accepted concentrations, or 5.
+pub fn choose_accepted(plant: &Plant, accepted: &[u64; 5]) -> Answer {
     let mut best = None;
-    let swept = sweep(plant, readings, |examined| {
+    sweep(plant, accepted, |examined| {
         if let Ok(sheet) = examined {
             best = better(best, sheet);
         }
     });
-    match (swept, best) {
-        (Err(number), _) => Answer::Refused(number),
-        (Ok(()), Some(sheet)) => Answer::Sheet(sheet),
-        (Ok(()), None) => Answer::Refused(refusal::NO_DESIGN),
+    match best {
+        Some(sheet) => Answer::Sheet(sheet),
+        None => Answer::Refused(refusal::NO_DESIGN),
+    }
+}
+
+/// The first of all permitted candidates, or a refusal.
+pub fn choose(plant: &Plant, readings: &[Reading; 5]) -> Answer {
+    match accept(plant, readings) {
+        Ok(accepted) => choose_accepted(plant, &accepted),
+        Err(number) => Answer::Refused(number),
     }
 }
 
@@ -80,10 +81,11 @@ pub const COUNTED: usize = 32;
 /// How many candidates of the grid are answered with each number, 0 for a
 /// sheet, or the refusal 1, 17, 2 to 4 or 14.
 pub fn census(plant: &Plant, readings: &[Reading; 5]) -> Result<[u64; COUNTED], u8> {
+    let accepted = accept(plant, readings)?;
     let mut counts = [0; COUNTED];
-    sweep(plant, readings, |examined| {
+    sweep(plant, &accepted, |examined| {
         let number = examined.err().unwrap_or(0);
         counts[usize::from(number)] += 1;
-    })?;
+    });
     Ok(counts)
 }

@@ -22,6 +22,7 @@ pub mod sheet;
 pub mod sludge;
 pub mod stages;
 pub mod terms;
+pub mod works;
 
 pub use choose::{census, choose};
 pub use day_log::{two_week_load, TwoWeekLoad};
@@ -32,3 +33,4 @@ pub use reading::{accept, Reading};
 pub use sheet::{Answer, Sheet};
 pub use stages::explain;
 pub use terms::{target_in_force, Consent, Term};
+pub use works::{line, works, Split, Works};

@@ -34,3 +34,5 @@ mod steps;
 mod table;
 #[path = "cases/terms.rs"]
 mod terms;
+#[path = "cases/works.rs"]
+mod works;

@@ -7,14 +7,14 @@ use native.Mathlib.Nat.{mul-le-mul}
 use native.Mathlib.Omega.{arith}
 use Rattle.rules.specs.Ranges.{Between}
 use Rattle.rules.specs.Census.{answerNumbers}
+use Rattle.rules.proofs.Filling.{FilledTo, empty, entered, full}
 use Rattle.census.specs.Tallies.{pairs}
-use Rattle.census.proofs.Filling.{FilledTo, empty, entered, full}
 use Rattle.census.proofs.Products.{pairs-kept, pairs-broken}
 use Rattle.census.proofs.pair_counts.Statement.{statement}
 use Rattle.census.proofs.pair_counts.Tie as tie
 
 abbrev Inv-number : tie.InvT-number
-Inv-number tanks fraction tank kept counts₀ k₀ counts k = Between 1 answerNumbers k × FilledTo (pairs fraction tank tanks) k counts
+Inv-number tanks fraction tank kept counts₀ k₀ counts k = Between 1 answerNumbers k × FilledTo 0 answerNumbers (pairs fraction tank tanks) k counts
 
 abbrev μ-number : tie.MeasureT-number
 μ-number tanks fraction tank kept counts₀ k₀ counts k = answerNumbers - k
@@ -25,7 +25,7 @@ mul-counts c = record { fits = omega (arith, mul-le-mul (c .pre .0 .most 0 (omeg
 number-holds : tie.Need-number-holds Inv-number μ-number
 number-holds c =
     let g = pairs (c .args .t1) (c .args .t2) (c .args .tanks) in
-    (omega arith, entered g 0 _ _ (omega arith) (pairs-kept (c .args .t1) (c .args .t2) (c .args .tanks)) (empty g))
+    (omega arith, entered 0 answerNumbers g 0 _ _ (omega arith) (pairs-kept (c .args .t1) (c .args .t2) (c .args .tanks)) (empty 0 answerNumbers g 0))
 
 pair-count-requires : tie.Need-pair-count-requires Inv-number μ-number
 pair-count-requires c κs =
@@ -38,7 +38,7 @@ number-again c =
     let head = c .before .before in
     let start = head .before in (
       omega arith,
-      entered (pairs (start .args .t1) (start .args .t2) (start .args .tanks)) (head .number .k) (c .pair-count .result) (head .number .counts)
+      entered 0 answerNumbers (pairs (start .args .t1) (start .args .t2) (start .args .tanks)) (head .number .k) (c .pair-count .result) (head .number .counts)
           (omega arith)
           (c .pair-count .ensures ∙ pairs-broken (start .args .t1) (start .args .t2) (start .args .tanks) (head .number .k) (head .number .inv .0 .least))
           (head .number .inv .1),
@@ -49,7 +49,8 @@ returns c =
     let start = c .before .before in
     let g = pairs (start .args .t1) (start .args .t2) (start .args .tanks) in
     let e : c .before .number .k ≡ answerNumbers = omega arith in
-    full g (c .before .number .counts) (subst (λ (n : ℕ). FilledTo g n (c .before .number .counts)) e (c .before .number .inv .1))
+    full 0 answerNumbers g (c .before .number .counts)
+    (subst (λ (n : ℕ). FilledTo 0 answerNumbers g n (c .before .number .counts)) e (c .before .number .inv .1))
 
 pub pair-counts-spec : {M : Type 1} → statement M
 pair-counts-spec =

@@ -1,13 +1,14 @@
 -- `pewgull_choose` meets its contract: the request is malformed, or the answer chosen for its data is put on the page.
 -- Assumes nothing.
 use borrow.Author.Needs.{needs}
-use Rattle.interface.proofs.Outcomes.{choosing-malformed, choosing-answered}
+use Rattle.interface.proofs.Outcomes.{answering-malformed, answering-answered}
+use Rattle.interface.specs.Calls.{answered, ChosenFor}
 use Rattle.interface.proofs.pewgull_choose.Statement.{statement}
 use Rattle.interface.proofs.pewgull_choose.Tie as tie
 
 returns : tie.Need-returns
 returns c =
-    choosing-malformed _ _ 0 _ (c .before .before .before .before .decode .ensures) _ _ (c .before .before .fault .given .1)
+    answering-malformed _ _ 0 _ (c .before .before .before .before .decode .ensures) ChosenFor answered _ _ (c .before .before .fault .given .1)
     (c .fault-number .ensures)
 
 returns-2 : tie.Need-returns-2
@@ -15,7 +16,7 @@ returns-2 c =
     let put = c .before .before in
     let answer = put .before .before .before in
     let held = answer .before .before .before .before in
-    choosing-answered _ _ 0 _ (held .before .before .decode .ensures) _ _ _ (held .«data» .given .1) (answer .choose .ensures .0)
+    answering-answered _ _ 0 _ (held .before .before .decode .ensures) ChosenFor answered _ _ _ (held .«data» .given .1) (answer .choose .ensures .0)
     (put .put .ensures)
 
 pub pewgull-choose-spec : {M : Type 1} → statement M

@@ -6,8 +6,8 @@ use borrow.Author.Needs.{needs}
 use native.Mathlib.Omega.{arith}
 use lib.ListN.{length, drop}
 use lib.Seq.{sets}
-use Rattle.words.specs.Bytes.{numberBytes}
-use Rattle.words.proofs.Stores.{number-stored, numbers-stored}
+use Rattle.words.specs.Bytes.{lowBytes, numberBytes}
+use Rattle.words.proofs.Stores.{number-stored, chunks-stored}
 use Rattle.words.proofs.put_numbers.Statement.{statement}
 use Rattle.words.proofs.put_numbers.Tie as tie
 
@@ -29,7 +29,9 @@ number-again c =
     (omega arith, search needs, left ∙ head .number .inv .2)
 
 returns : tie.Need-returns Inv-number μ-number
-returns c = numbers-stored _ _ _ _ (c .number-test .left) (c .before .number .inv .2)
+returns c =
+    let head = c .before in
+    chunks-stored (lowBytes 8) (head .before .before .before .args .numbers .now) _ _ (8 * head .number .i) (head .number .i) (c .number-test .left) (head .number .inv .2)
 
 pub put-numbers-spec : {M : Type 1} → statement M
 put-numbers-spec =

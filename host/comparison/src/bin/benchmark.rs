@@ -1,7 +1,8 @@
-//! Choices, censuses, examinations and two-week loads per second of the library
-//! and of the reference, on the same plants and day logs; the time of a census
-//! beside that of a choice, of a choice with four terms beside one without and of
-//! one in the COD way beside one in the BOD way; and the stack that a call takes.
+//! Choices, censuses, examinations, two-week loads and works in lines per second
+//! of the library and of the reference, on the same plants and day logs; the time
+//! of a census beside that of a choice, of a choice with four terms beside one
+//! without, of one in the COD way beside one in the BOD way and of a works beside
+//! as many choices as it has lines; and the stack that a call takes.
 
 use cases::model;
 use cases::plants;
@@ -10,8 +11,9 @@ use cases::request::*;
 use comparison::logs;
 use comparison::stack::{further_down, stack_of};
 use comparison::targets;
+use comparison::works;
 use library::number::{NO_DESIGN, SHEET};
-use library::PAGE_LENGTH as PAGE;
+use library::{PAGE_LENGTH as PAGE, WORKS_PAGE};
 use std::hint::black_box;
 use std::time::{Duration, Instant};
 
@@ -173,9 +175,8 @@ fn least_times(calls: [Timed; 2]) -> [Duration; 2] {
     least
 }
 
-/// The time of the second of all pairs of calls in hundredths of the first,
-/// over all places on the stack.
-fn share_of_time<'a>(pairs: impl Iterator<Item = [Timed<'a>; 2]>) -> f64 {
+/// The times of all pairs of calls over all places on the stack.
+fn times<'a>(pairs: impl Iterator<Item = [Timed<'a>; 2]>) -> [Duration; 2] {
     let mut all = [Duration::ZERO; 2];
     for pair in pairs {
         for place in 0..PLACES {
@@ -185,7 +186,17 @@ fn share_of_time<'a>(pairs: impl Iterator<Item = [Timed<'a>; 2]>) -> f64 {
             }
         }
     }
-    100.0 * all[1].as_secs_f64() / all[0].as_secs_f64()
+    all
+}
+
+/// The second of two times in hundredths of the first.
+fn share([first, second]: [Duration; 2]) -> f64 {
+    100.0 * second.as_secs_f64() / first.as_secs_f64()
+}
+
+/// The time of the second of all pairs of calls in hundredths of the first.
+fn share_of_time<'a>(pairs: impl Iterator<Item = [Timed<'a>; 2]>) -> f64 {
+    share(times(pairs))
 }
 
 /// The time of a choice with four terms in hundredths of that without, over
@@ -244,13 +255,63 @@ fn loads() {
     row("load, log of 3,660 days", rates);
 }
 
+/// The numbers of lines that works are timed with.
+const LINES: [u32; 3] = [2, 4, 8];
+
+fn works_of(request: &[u8]) -> u32 {
+    library::works(request, &mut [0; WORKS_PAGE]).0
+}
+
+/// Rates of works of so many equal lines.
+fn works_rates(plants: &[Request], lines: u32) {
+    let split = works::equal(lines);
+    let all: Vec<Vec<u8>> = plants
+        .iter()
+        .map(|plant| plant.works_bytes(&split))
+        .collect();
+    let by_reference = |request: &[u8]| model::works(request, WORKS_PAGE).number;
+    let name = format!("works of {lines} lines");
+    row(&name, rates(&all, works_of, by_reference));
+}
+
+/// The times of a choice and of a works of so many equal lines, over plants with
+/// a design or without.
+fn choices_and_works(plants: &[Request], lines: u32, design: bool) -> [Duration; 2] {
+    let split = works::equal(lines);
+    let wanted = |plant: &&Request| (chosen(plant) == SHEET) == design;
+    let pairs: Vec<[Vec<u8>; 2]> = plants
+        .iter()
+        .filter(wanted)
+        .map(|plant| [plant.choose_bytes(), plant.works_bytes(&split)])
+        .collect();
+    times(pairs.iter().map(|[plant, works]| {
+        let choice: Timed = (choice, &plant[..]);
+        [choice, (works_of, &works[..])]
+    }))
+}
+
+/// The time of a works in hundredths of that of as many choices for the whole
+/// plant as it has lines, over all plants.
+fn works_beside_choices(plants: &[Request], lines: u32) -> f64 {
+    let with = choices_and_works(plants, lines, true);
+    let without = choices_and_works(plants, lines, false);
+    let all = [with[0] + without[0], with[1] + without[1]];
+    let [all, with, without] = [all, with, without].map(|times| share(times) / f64::from(lines));
+    println!(
+        "works of {lines} lines: {all:.0}% of the time of {lines} choices, \
+         with a design {with:.0}%, without {without:.0}%"
+    );
+    all
+}
+
 /// The most stack that a call takes over all plants.
 fn stacks(plants: &[Request]) {
-    let mut most = [0; 6];
+    let mut most = [0; 8];
+    let eight = works::equal(8);
     let log = &ten_years()[0];
     let winter = [11, 16, 3, 15, 8, 20_000];
     let target = targets::request(4, &[winter; MOST_TERMS], (2, 29));
-    let mut page = [0; PAGE];
+    let mut page = [0; WORKS_PAGE];
     let four_terms = with_four_terms(plants);
     let by_cod = by_cod(&four_terms);
     for plant in plants.iter().chain(&four_terms).chain(&by_cod) {
@@ -262,16 +323,18 @@ fn stacks(plants: &[Request]) {
             stack_of(library::CENSUS, &choose, &mut page),
             stack_of(library::LOAD, log, &mut page),
             stack_of(library::TARGET, &target, &mut page),
+            stack_of(library::WORKS, &plant.works_bytes(&eight), &mut page),
+            stack_of(library::LINE, &plant.line_bytes(&eight, 8), &mut page),
         ];
         assert_eq!(taken[0].0, chosen(plant));
         for (most, (_, bytes)) in most.iter_mut().zip(taken) {
             *most = bytes.max(*most);
         }
     }
-    println!(
-        "stack, bytes: choose {}, examine {}, explain {}, census {}, load {}, target {}",
-        most[0], most[1], most[2], most[3], most[4], most[5]
-    );
+    let names = "choose examine explain census load target works line";
+    let each = names.split(' ').zip(most);
+    let listed: Vec<String> = each.map(|(name, most)| format!("{name} {most}")).collect();
+    println!("stack, bytes: {}", listed.join(", "));
 }
 
 fn main() {
@@ -309,6 +372,9 @@ fn main() {
     examinations("examine", &plants);
     examinations("examine, by COD", &cod_plants);
     loads();
+    for lines in LINES {
+        works_rates(&plants, lines);
+    }
     stacks(&plants);
     census_beside_choice("with a design", &plants, with_design);
     census_beside_choice("without a design", &plants, |plant| !with_design(plant));
@@ -320,4 +386,11 @@ fn main() {
         share <= 250.0,
         "a choice with four terms is to take at most 2.5 times that without"
     );
+    for lines in LINES {
+        let share = works_beside_choices(&plants, lines);
+        assert!(
+            share <= 100.0,
+            "a works is to be no slower than as many choices as it has lines"
+        );
+    }
 }

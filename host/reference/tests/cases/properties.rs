@@ -23,7 +23,7 @@ fn choices(generator: &mut Generator, plant: &mut Plant) {
     ]);
 }
 
-fn plant(generator: &mut Generator) -> Plant {
+pub fn plant(generator: &mut Generator) -> Plant {
     let mut plant = plant_a();
     choices(generator, &mut plant);
     plant.bod_load = generator.within(1, 8_000);
@@ -79,7 +79,7 @@ fn terms(generator: &mut Generator, plant: &Plant) -> Consent {
     consent
 }
 
-fn readings(generator: &mut Generator) -> [Reading; 5] {
+pub fn readings(generator: &mut Generator) -> [Reading; 5] {
     let bod = generator.within(20_000, 600_000) as f32 / 1000.0;
     let cod = (2.0 * bod).max(20.0);
     let solids = generator.within(0, 600_000) as f32 / 1000.0;
