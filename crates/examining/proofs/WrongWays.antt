@@ -109,7 +109,7 @@ pub record WrongWays : Type 0 where
   -- it keeps K × C for a simultaneous one
   pub simultaneous-by-bod : Differ (removes Way.Cod Process.Simultaneous concentrationsA 300 12 designU) 16_764_000 (removesByBod Process.Simultaneous concentrationsA 300 12 designU)
   -- it takes the phosphorus that the biomass holds from COD, or W
-  pub phosphorus-from-cod : Differ (phosphorusSludge 5_000 68 8_000 1_000 200_000) 170_000 (phosphorusSludge 5_000 68 8_000 1_000 400_000)
+  pub phosphorus-from-cod : Differ (sheetWith 0 .sludge) 1_101_595 (931_595 + phosphorusSludge 5_000 68 8_000 1_000 400_000)
   pub nitrified-from-cod : Differ (reactor .nitrified) 36_000 (nitrified 46_000 400_000)
   -- it takes the aeration's U at the design temperature
   pub aeration-at-design : Differ (oxygenByCod false 400_000 150_000 aerationU) 237_137 (oxygenByCod false 400_000 150_000 designU)
