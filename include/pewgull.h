@@ -1,22 +1,28 @@
 /*
  * Pewgull: dimensioning of single-stage activated sludge plants with nitrogen
- * removal. Eight calls, for x86-64 and its C calling convention (System V).
+ * removal. Eleven calls, for x86-64 and its C calling convention (System V).
  *
- * Each call takes the bytes of a request, or of a day log, writes on a page
- * that the caller lends, stores the number of bytes written in *written, and
- * gives a number. Later bytes of the page stay unchanged. No call allocates
- * memory, keeps anything between calls, or reads or writes anything else:
- * several threads may call at once, each with memory of its own. A choice
- * takes 16 kB of stack, a works 21 kB, a line of a works 17 kB; examining,
- * explaining, a census, a load and a target take 3 kB. The archive needs
- * memcpy and memset, and nothing more.
+ * Each call takes the bytes of a request, of a day log or of a sweep's state,
+ * writes on a page that the caller lends, stores the number of bytes written
+ * in *written, and gives a number. Later bytes of the page stay unchanged. No
+ * call allocates memory, keeps anything between calls, or reads or writes
+ * anything else: what a sweep hands on is in the state, which the caller
+ * keeps. Several threads may call at once, each with memory of its own; two
+ * that go on with one sweep take turns, or a copy of its state each. A choice
+ * takes 9 kB of stack, a works 14 kB, a line of a works and an advance of a
+ * sweep 10 kB; examining, also in a sweep, explaining, a census, a load, a
+ * target and the start of a sweep take 3 kB. The archive needs memcpy and
+ * memset, and nothing more.
  *
  * What the caller sees to
- *   - request points to request_length readable bytes, log to log_length;
- *     page points to page_length writable bytes; written points to a
- *     uint64_t. None of them is a null pointer, also where a length is 0.
- *   - The page and *written overlap neither the request or log nor each other.
- *   - No alignment is needed for the request, the log or the page.
+ *   - request points to request_length readable bytes, log to log_length,
+ *     state to state_length; page points to page_length writable bytes, and
+ *     state to writable ones where a sweep is started or advanced; written
+ *     points to a uint64_t. None of them is a null pointer, also where a
+ *     length is 0.
+ *   - The page, *written and a state that is written overlap neither the
+ *     request, log or state that is read nor each other.
+ *   - No alignment is needed for the request, the log, the state or the page.
  *
  * The request, version 4: 32-bit unsigned numbers, little-endian, no padding.
  * Data outside their ranges are refused with a number; every other number is
@@ -54,9 +60,10 @@
  *   30     120..123   number of terms of the consent, 0..4
  *   31..54 124..219   four entries for terms, of six words each
  *   55     220..223   way of sludge and oxygen: 0 bod, 1 cod
- *                     A request to choose or for a census ends here; one for
- *                     a works or for a line goes on in words of its own (see
- *                     pewgull_works).
+ *                     A request to choose, for a census or to start a sweep
+ *                     ends here; one for a works or for a line goes on in
+ *                     words of its own (see pewgull_works), and so does the
+ *                     state of a sweep (see pewgull_sweep_start).
  *   56     224..227   fraction, 200..500 thousandths
  *   57     228..231   return ratio, 30..75 (vertical flow 30..100) hundredths
  *   58     232..235   thickening time, 20..25 tenths of an hour
@@ -123,6 +130,12 @@ extern "C" {
 #define PEWGULL_WORKS_LENGTH 260
 #define PEWGULL_LINE_LENGTH 264
 
+/* Length of a sweep's state, in bytes. */
+#define PEWGULL_STATE_LENGTH 240
+
+/* Most candidates of an advance. */
+#define PEWGULL_ADVANCE_MOST 1000
+
 /* A page of this length takes every listing. */
 #define PEWGULL_PAGE_LENGTH 512
 
@@ -142,7 +155,7 @@ extern "C" {
 #define PEWGULL_WORKS_PAGE 1024
 
 /* Numbers that the calls give. */
-#define PEWGULL_SHEET 0          /* a sheet, figures, counts, a load, a target or a works */
+#define PEWGULL_SHEET 0          /* a sheet, figures, counts, a load, a target, a works or a sweep */
 #define PEWGULL_PLANT_DATA 1     /* a plant or site figure outside its range, or a line's 0 */
 #define PEWGULL_NO_NUMBER 2      /* a reading not finite, or below zero */
 #define PEWGULL_READING_RANGE 3  /* a head count or a result outside its range */
@@ -161,9 +174,11 @@ extern "C" {
 #define PEWGULL_TERM_NITRATE 16  /* the nitrate is not covered in a term */
 #define PEWGULL_BULKING 17       /* bulking sludge: a sludge volume index of 181..200 l/kg */
 #define PEWGULL_LINES 18         /* number of lines or shares wrong, or no such line */
-#define PEWGULL_BAD_LENGTH 101   /* request of another length: nothing written */
-#define PEWGULL_BAD_VERSION 102  /* request of another version, which is tested first: nothing written */
-#define PEWGULL_BAD_KIND 103     /* an unknown kind in a request: nothing written */
+#define PEWGULL_ADVANCE 19       /* an advance by too many candidates, or from a state that is not valid */
+#define PEWGULL_UNFINISHED 100   /* no refusal: the sweep has candidates left */
+#define PEWGULL_BAD_LENGTH 101   /* request or state of another length: nothing written */
+#define PEWGULL_BAD_VERSION 102  /* request or state of another version, which is tested first: nothing written */
+#define PEWGULL_BAD_KIND 103     /* an unknown kind in a request or state: nothing written */
 
 /*
  * Examines the candidate of a request of PEWGULL_EXAMINE_LENGTH bytes.
@@ -375,6 +390,76 @@ uint32_t pewgull_works(const uint8_t *request, size_t request_length,
 uint32_t pewgull_line(const uint8_t *request, size_t request_length,
                       uint8_t *page, size_t page_length,
                       uint64_t *written);
+
+/*
+ * Starts a sweep for a request of PEWGULL_CHOOSE_LENGTH bytes: a choice that
+ * goes on by some candidates at a time, and can be put down in between. Gives
+ * 0 and writes PEWGULL_STATE_LENGTH bytes, the state of the sweep, 32-bit
+ * unsigned numbers, little-endian:
+ *
+ *   word   bytes      what
+ *   0..55  0..223     the request, byte for byte
+ *   56     224..227   number of candidates asked for so far, at most the
+ *                     grid's: 83,076 in horizontal flow, 128,226 in vertical
+ *   57     228..231   fraction, of the best permitted candidate among them
+ *   58     232..235   return ratio, of the same
+ *   59     236..239   thickening time, of the same; 0, 0, 0: none yet
+ *
+ * At the start words 56 to 59 are 0. The best is the one that pewgull_choose
+ * would give of these candidates: by total volume, then fraction, then return
+ * ratio, then thickening time. A host that shows progress reads word 56 and
+ * words 57 to 59.
+ *
+ * These bytes are all that a sweep is. They can be copied, stored and sent,
+ * and are the same on every machine; a sweep goes on from any copy, in another
+ * program or after a restart. Any bytes are answered: what is no valid state
+ * gets 19 or 101 to 103. Nothing tells whether a valid one was reached from a
+ * start; an advance goes by what it holds.
+ *
+ * Gives 1, 17, 2 to 4 or 14 where the data get it: there is no sweep then.
+ * Gives 11 for a state of fewer than 240 bytes, or 101 to 103. With all of
+ * these nothing is written and *written is 0.
+ */
+uint32_t pewgull_sweep_start(const uint8_t *request, size_t request_length,
+                             uint8_t *state, size_t state_length,
+                             uint64_t *written);
+
+/*
+ * Goes on with a sweep by a number of candidates, 0 to PEWGULL_ADVANCE_MOST;
+ * the state, of PEWGULL_STATE_LENGTH bytes, is changed in place. Candidates
+ * come by rising fraction, then return ratio, then thickening time, which
+ * changes at each step.
+ *
+ * Gives 100 while fewer candidates than the grid's have been asked for, those
+ * of this advance counted: word 56 is then their number and words 57 to 59 are
+ * the best of them; nothing is written on the page and *written is 0. From the
+ * grid's number on, at which word 56 stays, gives 0 and writes the listing of
+ * the best's sheet, or gives 5 and writes the refusal where there is none: for
+ * a sweep from a start this is what pewgull_choose gives. Asked for more
+ * candidates it answers the same again.
+ *
+ * Gives 19 and writes the refusal where more than 1000 candidates are asked
+ * for; or where the state's data are not accepted, its word 56 is above the
+ * grid's number, or its words 57 to 59 are neither 0, 0, 0 nor a permitted
+ * candidate. Gives 11 where the page is too short for the listing, or 101 to
+ * 103, and writes nothing. With all of these the state stays as it was.
+ */
+uint32_t pewgull_sweep_advance(uint8_t *state, size_t state_length,
+                               uint32_t candidates,
+                               uint8_t *page, size_t page_length,
+                               uint64_t *written);
+
+/*
+ * Examines a candidate of the plant of a sweep: gives and writes what
+ * pewgull_examine does for the data of the state, of PEWGULL_STATE_LENGTH
+ * bytes, and these three numbers, whatever words 56 to 59 are. The state is
+ * only read: the sweep stays where it is.
+ */
+uint32_t pewgull_sweep_examine(const uint8_t *state, size_t state_length,
+                               uint32_t fraction, uint32_t return_ratio,
+                               uint32_t thickening,
+                               uint8_t *page, size_t page_length,
+                               uint64_t *written);
 
 #ifdef __cplusplus
 }

@@ -76,14 +76,14 @@ permitted-parts p x f r h grid = (
 )
 
 -- one candidate of a fraction that keeps its rules
-module _ (p : Plant) (x : Concentrations) (f r h m best : ℕ) (grid : T (onGrid (p .tank) (candidate f r h))) (mass : keptMass p x f ≡ m) (small : m < noneYet) (l : LeastKey p x (Visited p (place f r h)) best) where
+module _ (p : Plant) (x : Concentrations) (s f r h m best : ℕ) (from : s ≤ place f r h) (grid : T (onGrid (p .tank) (candidate f r h))) (mass : keptMass p x f ≡ m) (small : m < noneYet) (l : LeastKey p x (Visited p s (place f r h)) best) where
   abbrev entry : Tank
   entry = record { solids = reactorSolids (p .process) (settlingOf p r h .solids); volume = settlingOf p r h .volume }
 
-  with-tank : (v : Verdict) → verdict (tankRules p (settlingOf p r h)) ≡ v → LeastKey p x (Visited p (place f r h + 1)) (improvedKey best m (tankBy v entry) f r h)
+  with-tank : (v : Verdict) → verdict (tankRules p (settlingOf p r h)) ≡ v → LeastKey p x (Visited p s (place f r h + 1)) (improvedKey best m (tankBy v entry) f r h)
   unfolding improvedKey candidateKey candidateTotal totalOf
   with-tank (Verdict.Broken n) e =
-      broken p x (candidate f r h) grid (place f r h) refl best l
+      broken p x (candidate f r h) grid s (place f r h) from refl best l
       (λ t. kept-not-broken n (sym e ∙ all-kept-verdict (tankRules p (settlingOf p r h)) .0 (permitted-parts p x f r h grid .0 t .1)))
   with-tank Verdict.Kept e =
       let c = mass-kept p x f m mass small in
@@ -91,15 +91,15 @@ module _ (p : Plant) (x : Concentrations) (f r h m best : ℕ) (grid : T (onGrid
       rw (ne-eqb (reactorSolids (p .process) (settlingOf p r h .solids)) 0 (λ z. zero-solids k z))
       (subst
       (λ (n : ℕ).
-      LeastKey p x (Visited p (place f r h + 1))
+      LeastKey p x (Visited p s (place f r h + 1))
       (min best (keyOf (reactorVolume n (reactorSolids (p .process) (settlingOf p r h .solids)) + settlingOf p r h .volume) f r h)))
       (c .1)
-      (kept p x (candidate f r h) grid (place f r h) refl best l (permitted-parts p x f r h grid .1 (c .0, k))))
+      (kept p x (candidate f r h) grid s (place f r h) from refl best l (permitted-parts p x f r h grid .1 (c .0, k))))
     where
       zero-solids : TankKept p r h → reactorSolids (p .process) (settlingOf p r h .solids) ≡ 0 → ⊥
       zero-solids k z = omega (arith, kept-solids p r h k)
 
-  pub improved : LeastKey p x (Visited p (place f r h + 1)) (improvedKey best m (tankOf p r h) f r h)
+  pub improved : LeastKey p x (Visited p s (place f r h + 1)) (improvedKey best m (tankOf p r h) f r h)
   unfolding tankOf
   improved = with-tank (verdict (tankRules p (settlingOf p r h))) refl
 
@@ -129,9 +129,9 @@ module _ (p : Plant) (x : Concentrations) (e : ℕ) (y : Candidate) (least : lea
       omega arith
 
 -- a fraction is left out: not covered, or no lighter than a covered one before it
-module _ (p : Plant) (x : Concentrations) (f l best : ℕ) (small : (e : ℕ) → GridFraction e → reactorOf p x e .mass < noneYet) (light : Lightest p x f l) (over : l ≤ keptMass p x f) where
+module _ (p : Plant) (x : Concentrations) (first f l best : ℕ) (least : leastFraction ≤ first) (small : (e : ℕ) → GridFraction e → reactorOf p x e .mass < noneYet) (light : Lightest p x first f l) (over : l ≤ keptMass p x f) where
   -- a permitted candidate of the fraction is beaten by the same tank at the covered fraction before it
-  replaced : (y : Candidate) → y .fraction ≡ f → T (onGrid (p .tank) y) → T (permitted p x y) → Beaten p x (Visited p (firstPlace f)) y
+  replaced : (y : Candidate) → y .fraction ≡ f → T (onGrid (p .tank) y) → T (permitted p x y) → Beaten p x (Visited p (firstPlace first) (firstPlace f)) y
   replaced y at grid t = go light
     where
       parts : FractionKept p x (y .fraction) × TankKept p (y .«return_ratio») (y .thickening)
@@ -143,26 +143,26 @@ module _ (p : Plant) (x : Concentrations) (f l best : ℕ) (small : (e : ℕ) �
       below : l < noneYet
       below = omega (arith, mass, small (y .fraction) (on-grid p y grid .fraction))
 
-      go : Lightest p x f l → Beaten p x (Visited p (firstPlace f)) y
+      go : Lightest p x first f l → Beaten p x (Visited p (firstPlace first) (firstPlace f)) y
       go (inl none) = absurd (omega (arith, below))
       go (inr w) =
           let c = mass-kept p x (w .0) l (w .3) below in
           let less : w .0 < y .fraction = omega (arith, w .2) in
-          let z : T (onGrid (p .tank) (candidate (w .0) (y .«return_ratio») (y .thickening))) = earlier-grid p x (w .0) y (w .1) less grid in (
+          let z : T (onGrid (p .tank) (candidate (w .0) (y .«return_ratio») (y .thickening))) = earlier-grid p x (w .0) y (omega (arith, w .1)) less grid in (
             candidate (w .0) (y .«return_ratio») (y .thickening),
-            record { onGrid = z; before = omega (arith, w .2, on-grid p y grid) },
+            record { onGrid = z; since = omega (arith, w .1, on-grid p y grid); before = omega (arith, w .2, on-grid p y grid) },
             permitted-parts p x (w .0) (y .«return_ratio») (y .thickening) z .1 (c .0, parts .1),
-            earlier-key p x (w .0) y (w .1) less grid (parts .1) (omega (arith, c .1, mass)),
+            earlier-key p x (w .0) y (omega (arith, w .1)) less grid (parts .1) (omega (arith, c .1, mass)),
           )
 
-  pub left-out : LeastKey p x (Visited p (firstPlace f)) best → LeastKey p x (Visited p (firstPlace (f + 1))) best
+  pub left-out : LeastKey p x (Visited p (firstPlace first) (firstPlace f)) best → LeastKey p x (Visited p (firstPlace first) (firstPlace (f + 1))) best
   left-out =
-      grow p x (Visited p (firstPlace f)) (Visited p (firstPlace (f + 1))) best
-      (λ y v. record { onGrid = v .onGrid; before = omega (arith, v .before) })
+      grow p x (Visited p (firstPlace first) (firstPlace f)) (Visited p (firstPlace first) (firstPlace (f + 1))) best
+      (λ y v. record { onGrid = v .onGrid; since = v .since; before = omega (arith, v .before) })
       (λ y v t. go y v t (ltb (placeOf y) (firstPlace f)) refl)
     where
-      go : (y : Candidate) → Visited p (firstPlace (f + 1)) y → T (permitted p x y) → (b : Bool) → ltb (placeOf y) (firstPlace f) ≡ b → Beaten p x (Visited p (firstPlace f)) y
-      go y v t true e = (y, record { onGrid = v .onGrid; before = ltb-true (placeOf y) (firstPlace f) e }, t, le-refl (candidateKey p x y))
+      go : (y : Candidate) → Visited p (firstPlace first) (firstPlace (f + 1)) y → T (permitted p x y) → (b : Bool) → ltb (placeOf y) (firstPlace f) ≡ b → Beaten p x (Visited p (firstPlace first) (firstPlace f)) y
+      go y v t true e = (y, record { onGrid = v .onGrid; since = v .since; before = ltb-true (placeOf y) (firstPlace f) e }, t, le-refl (candidateKey p x y))
       go y v t false e =
           let g : OnGrid y = on-grid p y (v .onGrid) in
           let b : placeOf y < firstPlace (f + 1) = v .before in

@@ -2,11 +2,11 @@
 -- arithmetic needs. Assumes nothing.
 use mathlib.Core.Path.{_≡_, subst}
 use mathlib.Core.Logic.{inl, inr}
-use Prim.Native.Nat.{ℕ, _+_, _≤_, _<_}
+use Prim.Native.Nat.{ℕ, _+_, _/_, _%_, _≤_, _<_}
 use native.Mathlib.Omega.{arith}
 use lib.Dec.{T}
 use Rattle.rules.specs.Rules.{verdict}
-use Rattle.rules.specs.Limits.{leastRatio, mostRatio, leastTime, mostTime, mostMass, mostSolids, mostReactorSolids, mostSettlingVolume}
+use Rattle.rules.specs.Limits.{leastFraction, leastRatio, mostRatio, leastTime, mostTime, mostMass, mostSolids, mostReactorSolids}
 use Rattle.rules.specs.AgeNitrate.{largestReturnRatio, onGrid}
 use Rattle.rules.specs.Examining.{tankRules}
 use Rattle.rules.specs.ReactorSteps.{reactorOf, reactorSolids}
@@ -21,7 +21,7 @@ use Rattle.rules.specs.declared.Verdict.{Verdict}
 use Rattle.rules.proofs.RangeFacts.{grid-ranges}
 use Rattle.reactor.proofs.Bounds.{reactor-bounds}
 use Rattle.settling.proofs.Bounds.{settling-bounds}
-use Rattle.choosing.specs.Keys.{noneYet, place, firstPlace, placeOf, keptMass, tankBy, tankOf, improvedKey, Visited, LeastKey, Lightest}
+use Rattle.choosing.specs.Keys.{noneYet, place, firstPlace, placeOf, keptMass, tankBy, tankOf, TankMost, packedTank, unpackedTank, improvedKey, Visited, LeastKey, Lightest}
 use Rattle.choosing.specs.declared.Tank.{Tank}
 use Rattle.choosing.proofs.KeyOrder.{on-grid}
 use Rattle.choosing.proofs.Growing.{gap}
@@ -37,14 +37,33 @@ solids-most Process.Intermittent e h = omega arith
 solids-most (Process.StepFeed Steps.Two) e h = omega arith
 solids-most (Process.StepFeed Steps.Three) e h = omega arith
 
-pub record TankMost (t : Tank) : Type 0 where
-  pub solids : t .solids ≤ mostReactorSolids
-  pub volume : t .volume ≤ mostSettlingVolume
+-- an entry of the table has its limits
+pub tank-most : (p : Plant) → PlantRanges p → (r h : ℕ) → GridRatio r → GridTime h → TankMost (tankOf p r h)
+unfolding tankOf
+tank-most p pr r h br bh = go (verdict (tankRules p (settlingOf p r h)))
+  where
+    go : (v : Verdict) → TankMost (tankBy v (record { solids = reactorSolids (p .process) (settlingOf p r h .solids); volume = settlingOf p r h .volume }))
+    go Verdict.Kept =
+        record {
+          solids = solids-most (p .process) (settlingOf p r h .solids) (settling-bounds p r h pr br bh .solids .most);
+          volume = settling-bounds p r h pr br bh .volume .most;
+        }
+    go (Verdict.Broken n) = record { solids = omega arith; volume = omega arith }
+
+-- an entry is read back as it was packed
+pub unpacked : (t : Tank) → TankMost t → unpackedTank (packedTank t) ≡ t
+unpacked t m = λ i. record { solids = solids i; volume = volume i }
+  where
+    solids : packedTank t / 4_294_967_296 ≡ t .solids
+    solids = omega (arith, m .volume)
+
+    volume : packedTank t % 4_294_967_296 ≡ t .volume
+    volume = omega (arith, m .volume)
 
 -- a fraction once passed stays passed
-pub later-fraction : (p : Plant) (x : Concentrations) (f l : ℕ) → Lightest p x f l → Lightest p x (f + 1) l
-later-fraction p x f l (inl e) = inl e
-later-fraction p x f l (inr w) = inr (w .0, w .1, omega (arith, w .2), w .3)
+pub later-fraction : (p : Plant) (x : Concentrations) (first f l : ℕ) → Lightest p x first f l → Lightest p x first (f + 1) l
+later-fraction p x first f l (inl e) = inl e
+later-fraction p x first f l (inr w) = inr (w .0, w .1, omega (arith, w .2), w .3)
 
 module _ (p : Plant) (x : Concentrations) (pr : PlantRanges p) (xr : ConcentrationRanges x) where
   pub limits : Limits p x
@@ -61,25 +80,12 @@ module _ (p : Plant) (x : Concentrations) (pr : PlantRanges p) (xr : Concentrati
   pub mass-most : (f m : ℕ) → GridFraction f → keptMass p x f ≡ m → m < noneYet → m ≤ mostMass
   mass-most f m b e h = omega (arith, mass-kept p x f m e h .1, limits .mass f b)
 
-  -- an entry of the table has its limits
-  pub tank-most : (r h : ℕ) → GridRatio r → GridTime h → TankMost (tankOf p r h)
-  unfolding tankOf
-  tank-most r h br bh = go (verdict (tankRules p (settlingOf p r h)))
-    where
-      go : (v : Verdict) → TankMost (tankBy v (record { solids = reactorSolids (p .process) (settlingOf p r h .solids); volume = settlingOf p r h .volume }))
-      go Verdict.Kept =
-          record {
-            solids = solids-most (p .process) (settlingOf p r h .solids) (settling-bounds p r h pr br bh .solids .most);
-            volume = settling-bounds p r h pr br bh .volume .most;
-          }
-      go (Verdict.Broken n) = record { solids = omega arith; volume = omega arith }
-
   -- a fraction left out
   pub fraction-left :
-      (f l m best : ℕ) → keptMass p x f ≡ m → l ≤ m → Lightest p x f l
-      → LeastKey p x (Visited p (firstPlace f)) best
-      → LeastKey p x (Visited p (firstPlace (f + 1))) best
-  fraction-left f l m best e over light = left-out p x f l best small light (omega arith)
+      (first f l m best : ℕ) → leastFraction ≤ first → keptMass p x f ≡ m → l ≤ m → Lightest p x first f l
+      → LeastKey p x (Visited p (firstPlace first) (firstPlace f)) best
+      → LeastKey p x (Visited p (firstPlace first) (firstPlace (f + 1))) best
+  fraction-left first f l m best least e over light = left-out p x first f l best least small light (omega arith)
 
   module _ (last : ℕ) (is-last : last ≡ largestReturnRatio (p .tank)) (lasts : Between 75 mostRatio last) (f : ℕ) (bf : GridFraction f) where
     in-grid : (r h : ℕ) → Between leastRatio last r → GridTime h → T (onGrid (p .tank) (candidate f r h))
@@ -92,24 +98,24 @@ module _ (p : Plant) (x : Concentrations) (pr : PlantRanges p) (xr : Concentrati
 
     -- one candidate
     pub candidate-turn :
-        (r h m best : ℕ) → Between leastRatio last r → GridTime h → keptMass p x f ≡ m → m < noneYet
-        → LeastKey p x (Visited p (place f r h)) best
-        → LeastKey p x (Visited p (place f r (h + 1))) (improvedKey best m (tankOf p r h) f r h)
-    candidate-turn r h m best br bh e below l =
+        (s r h m best : ℕ) → s ≤ place f r h → Between leastRatio last r → GridTime h → keptMass p x f ≡ m → m < noneYet
+        → LeastKey p x (Visited p s (place f r h)) best
+        → LeastKey p x (Visited p s (place f r (h + 1))) (improvedKey best m (tankOf p r h) f r h)
+    candidate-turn s r h m best from br bh e below l =
         let n : place f r h + 1 ≡ place f r (h + 1) = omega arith in
-        subst (λ (n : ℕ). LeastKey p x (Visited p n) (improvedKey best m (tankOf p r h) f r h)) n
-        (improved p x f r h m best (in-grid r h br bh) e below l)
+        subst (λ (n : ℕ). LeastKey p x (Visited p s n) (improvedKey best m (tankOf p r h) f r h)) n
+        (improved p x s f r h m best from (in-grid r h br bh) e below l)
 
     -- the last thickening time of a return ratio is done
-    pub ratio-done : (r best : ℕ) → LeastKey p x (Visited p (place f r (mostTime + 1))) best → LeastKey p x (Visited p (place f (r + 1) leastTime)) best
-    ratio-done r best = gap p x (place f r (mostTime + 1)) (place f (r + 1) leastTime) best (omega arith) (λ y t. nobody y (on-grid p y t))
+    pub ratio-done : (s r best : ℕ) → LeastKey p x (Visited p s (place f r (mostTime + 1))) best → LeastKey p x (Visited p s (place f (r + 1) leastTime)) best
+    ratio-done s r best = gap p x s (place f r (mostTime + 1)) (place f (r + 1) leastTime) best (omega arith) (λ y t. nobody y (on-grid p y t))
       where
         nobody : (y : Candidate) → OnGrid y → placeOf y < place f (r + 1) leastTime → placeOf y < place f r (mostTime + 1)
         nobody y g b = omega arith
 
     -- the last return ratio of a fraction is done
-    pub fraction-done : (best : ℕ) → LeastKey p x (Visited p (place f (last + 1) leastTime)) best → LeastKey p x (Visited p (firstPlace (f + 1))) best
-    fraction-done best = gap p x (place f (last + 1) leastTime) (firstPlace (f + 1)) best (omega arith) (λ y t. nobody y (on-grid p y t) (ratio-at-most y t))
+    pub fraction-done : (s best : ℕ) → LeastKey p x (Visited p s (place f (last + 1) leastTime)) best → LeastKey p x (Visited p s (firstPlace (f + 1))) best
+    fraction-done s best = gap p x s (place f (last + 1) leastTime) (firstPlace (f + 1)) best (omega arith) (λ y t. nobody y (on-grid p y t) (ratio-at-most y t))
       where
         nobody : (y : Candidate) → OnGrid y → y .«return_ratio» ≤ last → placeOf y < firstPlace (f + 1) → placeOf y < place f (last + 1) leastTime
         nobody y g r b = omega arith

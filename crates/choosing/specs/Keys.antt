@@ -8,7 +8,7 @@ use mathlib.Core.List.{List}
 use lib.Dec.{T, eqb}
 use lib.ListN.{length, getD}
 use Rattle.rules.specs.Rules.{verdict}
-use Rattle.rules.specs.Limits.{leastFraction, leastRatio, leastTime}
+use Rattle.rules.specs.Limits.{leastRatio, leastTime, mostReactorSolids, mostSettlingVolume}
 use Rattle.rules.specs.AgeNitrate.{onGrid}
 use Rattle.rules.specs.ReactorSteps.{reactorOf, reactorSolids, reactorVolume}
 use Rattle.rules.specs.SettlingSteps.{thickeningRoot, bottomSludge, settlingOf}
@@ -66,6 +66,18 @@ tankOf p r h =
     tankBy (verdict (tankRules p (settlingOf p r h)))
     (record { solids = reactorSolids (p .process) (settlingOf p r h .solids); volume = settlingOf p r h .volume })
 
+-- the limits of an entry
+pub record TankMost (t : Tank) : Type 0 where
+  pub solids : t .solids ≤ mostReactorSolids
+  pub volume : t .volume ≤ mostSettlingVolume
+
+-- an entry as one number, and back
+abbrev pub packedTank : Tank → ℕ
+packedTank t = t .solids * 4_294_967_296 + t .volume
+
+abbrev pub unpackedTank : ℕ → Tank
+unpackedTank n = record { solids = n / 4_294_967_296; volume = n % 4_294_967_296 }
+
 -- the place of a return ratio and a thickening time in the table
 abbrev pub tankIndex : ℕ → ℕ → ℕ
 tankIndex r h = (r - leastRatio) * 6 + (h - leastTime)
@@ -76,18 +88,19 @@ pub record Settled (index : ℕ) (bottoms : List ℕ) : Type 0 where
   pub holds : (h : ℕ) → GridTime h → getD bottoms (h - leastTime) 0 ≡ bottomSludge (thickeningRoot h) index
 
 -- the table holds every tank with a return ratio up to the last
-pub record Filled (p : Plant) (last : ℕ) (table : List Tank) : Type 0 where
+pub record Filled (p : Plant) (last : ℕ) (table : List ℕ) : Type 0 where
   pub size : length table ≡ 426
-  pub holds : (r h : ℕ) → Between leastRatio last r → GridTime h → getD table (tankIndex r h) (record { solids = 0; volume = 0 }) ≡ tankOf p r h
+  pub holds : (r h : ℕ) → Between leastRatio last r → GridTime h → getD table (tankIndex r h) 0 ≡ packedTank (tankOf p r h)
 
 -- the lesser of a key and the key of one more candidate, which counts only where its tank keeps the rules
 unfoldable pub improvedKey : ℕ → ℕ → Tank → ℕ → ℕ → ℕ → ℕ
 improvedKey best mass tank f r h =
     cond (eqb (tank .solids) 0) best (min best (keyOf (reactorVolume mass (tank .solids) + tank .volume) f r h))
 
--- the candidates of the grid whose place is below n
-pub record Visited (p : Plant) (n : ℕ) (y : Candidate) : Type 0 where
+-- the candidates of the grid from the place s on, before the place n
+pub record Visited (p : Plant) (s n : ℕ) (y : Candidate) : Type 0 where
   pub onGrid : T (onGrid (p .tank) y)
+  pub since : s ≤ placeOf y
   pub before : placeOf y < n
 
 -- A number is the least key among a set of candidates: no permitted one has a smaller key, and it is the key of a
@@ -96,6 +109,6 @@ pub record LeastKey (p : Plant) (x : Concentrations) (among : Candidates) (best 
   pub below : (y : Candidate) → among y → T (permitted p x y) → best ≤ candidateKey p x y
   pub held : (best ≡ noneYet) ⊎ ((y : Candidate) × among y × T (permitted p x y) × (best ≡ candidateKey p x y))
 
--- A mass is that of a covered fraction below f, or `noneYet`.
-abbrev pub Lightest : Plant → Concentrations → ℕ → ℕ → Type 0
-Lightest p x f mass = (mass ≡ noneYet) ⊎ ((e : ℕ) × (leastFraction ≤ e) × (e < f) × (keptMass p x e ≡ mass))
+-- A mass is that of a covered fraction from the first on, below f, or `noneYet`.
+abbrev pub Lightest : Plant → Concentrations → ℕ → ℕ → ℕ → Type 0
+Lightest p x first f mass = (mass ≡ noneYet) ⊎ ((e : ℕ) × (first ≤ e) × (e < f) × (keptMass p x e ≡ mass))

@@ -10,13 +10,15 @@ use rules::Refusal;
 use rules::Verdict;
 ghost use mathlib.Core.Path.{_≡_};
 ghost use Prim.Native.Nat.{_≤_, _<_};
+ghost use lib.ListN.{length, getD};
 ghost use Rattle.rules.specs.SettlingSteps.{thickeningRoot, bottomSludge};
+ghost use Rattle.rules.specs.AgeNitrate.{largestReturnRatio};
 ghost use Rattle.rules.specs.Limits.{mostFraction, mostRatio, mostTime, mostMass, mostReactorSolids, mostSettlingVolume};
-ghost use Rattle.rules.specs.Ranges.{Between, Index, GridFraction, GridRatio, GridTime, PlantRanges, ConcentrationRanges};
+ghost use Rattle.rules.specs.Ranges.{Index, GridFraction, GridRatio, GridTime, PlantRanges, ConcentrationRanges};
 ghost use Rattle.rules.specs.Choosing.{grid, ChosenAmong, Chosen};
 ghost use Rattle.rules.specs.TwoColumns.{TwoColumns};
 ghost use Rattle.reactor.specs.Seasons.{SeasonsAt};
-ghost use Rattle.choosing.specs.Keys.{noneYet, keyCandidate, keptMass, tankOf, tankIndex, improvedKey, LeastKey, Settled, Filled};
+ghost use Rattle.choosing.specs.Keys.{keyCandidate, keptMass, tankOf, TankMost, packedTank, unpackedTank, tankIndex, improvedKey, LeastKey, Settled, Filled};
 
 // What the sweep's table holds of one settling tank.
 pub struct Tank {
@@ -27,10 +29,10 @@ pub struct Tank {
 }
 
 // Above every key and every mass: no design yet, or a fraction that is not covered.
-const NONE_YET: u64 = 18_446_744_073_709_551_615;
+pub const NONE_YET: u64 = 18_446_744_073_709_551_615;
 
 // The sludge mass at a fraction, or NONE_YET where it breaks a rule of the fraction.
-fn kept_mass(
+pub fn kept_mass(
     plant: Plant,
     concentrations: Concentrations,
     seasons: reactor::Seasons,
@@ -66,8 +68,28 @@ fn tank_entry(plant: Plant, return_ratio: u32, thickening: u32, bottom: u64) -> 
     }
 }
 
+// A tank as one number: E' times 2^32, and the volume.
+fn packed(tank: Tank) -> u64
+    requires { ⌜ TankMost tank ⌝ }
+    ensures { λ r. ⌜ r ≡ packedTank tank ⌝ }
+{
+    tank.solids * 4_294_967_296 + tank.volume
+}
+
+// The tank at a place of the table.
+pub fn tank_at(table: &[u64], i: usize) -> Tank
+    requires { ⌜ i < length (now table) ⌝ }
+    ensures { λ r. ⌜ r ≡ unpackedTank (getD (now (table .entry)) i 0) ⌝ }
+{
+    let entry = table[i];
+    Tank {
+        solids: entry / 4_294_967_296,
+        volume: entry % 4_294_967_296,
+    }
+}
+
 // The place of a return ratio and a thickening time in the table.
-fn tank_index(return_ratio: u32, thickening: u32) -> usize
+pub fn tank_index(return_ratio: u32, thickening: u32) -> usize
     requires { ⌜ GridRatio «return_ratio» × GridTime thickening ⌝ }
     ensures { λ r. ⌜ (r ≡ tankIndex «return_ratio» thickening) × (r < 426) ⌝ }
 {
@@ -75,7 +97,7 @@ fn tank_index(return_ratio: u32, thickening: u32) -> usize
 }
 
 // The bottom sludge of each thickening time: the only roots that a choice finds.
-fn bottoms(index: u32) -> [u64; 6]
+pub fn bottoms(index: u32) -> [u64; 6]
     requires { ⌜ Index index ⌝ }
     ensures { λ r. ⌜ Settled index r ⌝ }
 {
@@ -87,25 +109,22 @@ fn bottoms(index: u32) -> [u64; 6]
 }
 
 // The table of the settling tanks with return ratios up to the last, filled once.
-fn tanks(plant: Plant, last: u32, bottoms: [u64; 6]) -> [Tank; 426]
+pub fn tanks(plant: Plant, last: u32, bottoms: [u64; 6]) -> [u64; 426]
     requires { ⌜ PlantRanges plant × GridRatio last × Settled (plant .«sludge_volume_index») bottoms ⌝ }
     ensures { λ r. ⌜ Filled plant last r ⌝ }
 {
-    let mut table = [Tank {
-        solids: 0,
-        volume: 0,
-    }; 426];
+    let mut table = [0u64; 426];
     'time: for h in rules::LEAST_TIME..=rules::MOST_TIME {
         let bottom = bottoms[(h - rules::LEAST_TIME) as usize];
         'ratio: for r in rules::LEAST_RATIO..=last {
-            table[tank_index(r, h)] = tank_entry(plant, r, h, bottom);
+            table[tank_index(r, h)] = packed(tank_entry(plant, r, h, bottom));
         }
     }
     table
 }
 
 // The lesser of a key and the key of one more candidate, which counts only where its tank keeps the rules.
-fn improved(best: u64, mass: u64, tank: Tank, f: u32, r: u32, h: u32) -> u64
+pub fn improved(best: u64, mass: u64, tank: Tank, f: u32, r: u32, h: u32) -> u64
     requires { ⌜ (mass ≤ mostMass) × (tank .solids ≤ mostReactorSolids) × (tank .volume ≤ mostSettlingVolume) × (f ≤ mostFraction) × (r ≤ mostRatio) × (h ≤ mostTime) ⌝ }
     ensures { λ k. ⌜ k ≡ improvedKey best mass tank f r h ⌝ }
 {
@@ -123,14 +142,14 @@ fn sweep(
     plant: Plant,
     concentrations: Concentrations,
     seasons: reactor::Seasons,
-    bottoms: [u64; 6],
+    table: &[u64],
 ) -> u64
-    requires { ⌜ PlantRanges plant × ConcentrationRanges concentrations × SeasonsAt plant concentrations seasons × Settled (plant .«sludge_volume_index») bottoms ⌝ }
+    requires { ⌜ PlantRanges plant × ConcentrationRanges concentrations × SeasonsAt plant concentrations seasons
+        × Filled plant (largestReturnRatio (plant .tank)) (now table) ⌝ }
     ensures { λ r. ⌜ LeastKey plant concentrations (grid plant) r ⌝ }
 {
     let flow = plant.tank;
     let last = examining::largest_return_ratio(flow);
-    let table = tanks(plant, last, bottoms);
     let mut best = NONE_YET;
     let mut lightest = NONE_YET;
     'fraction: for f in rules::LEAST_FRACTION..=rules::MOST_FRACTION {
@@ -142,7 +161,7 @@ fn sweep(
         'ratio: for r in rules::LEAST_RATIO..=last {
             'time: for h in rules::LEAST_TIME..=rules::MOST_TIME {
                 let i = tank_index(r, h);
-                let tank = table[i];
+                let tank = tank_at(table, i);
                 best = improved(best, mass, tank, f, r, h);
             }
         }
@@ -151,7 +170,7 @@ fn sweep(
 }
 
 // The candidate that a key names.
-fn key_candidate(key: u64) -> Candidate
+pub fn key_candidate(key: u64) -> Candidate
     ensures { λ r. ⌜ r ≡ keyCandidate key ⌝ }
 {
     Candidate {
@@ -167,8 +186,11 @@ pub fn choose_accepted(plant: Plant, concentrations: Concentrations) -> Answer
     ensures { λ r. ⌜ ChosenAmong plant concentrations (grid plant) r ⌝ }
 {
     let bottoms = bottoms(plant.sludge_volume_index);
+    let flow = plant.tank;
+    let last = examining::largest_return_ratio(flow);
+    let table = tanks(plant, last, bottoms);
     let seasons = reactor::seasons_of(plant, concentrations);
-    let best = sweep(plant, concentrations, seasons, bottoms);
+    let best = sweep(plant, concentrations, seasons, &table);
     if best == NONE_YET {
         return Answer::Refused(Refusal::NoDesign);
     }

@@ -13,7 +13,8 @@ use Rattle.request.specs.Frames.{candidateWords}
 use Rattle.request.specs.declared.Data.{Data}
 use Rattle.request.specs.declared.Decoded.{Decoded}
 use Rattle.listing.proofs.Outcomes.{writing-fits, writing-long}
-use Rattle.interface.specs.Calls.{Outcome, outcome, putOn, malformed, onData, examinedAt, examined, answered, Answering, ChosenFor}
+use Rattle.putting.specs.Outcomes.{Outcome, outcome, putOn, malformed, onData, answered, Answering}
+use Rattle.interface.specs.Calls.{examinedAt, examined, ChosenFor}
 use Rattle.compare.specs.Records.{Call, Answers}
 use Rattle.compare.specs.declared.Operation.{Operation}
 

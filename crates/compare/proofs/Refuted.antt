@@ -12,7 +12,8 @@ use Rattle.words.specs.Bytes.{word, wordsFrom}
 use Rattle.request.specs.Layout.{decodeWords, decode}
 use Rattle.request.specs.Frames.{frameOf}
 use Rattle.request.proofs.CaseA.{plantA, dataA, requestA}
-use Rattle.interface.specs.Calls.{numberOf, putOn, onData, examined}
+use Rattle.putting.specs.Outcomes.{numberOf, putOn, onData}
+use Rattle.interface.specs.Calls.{examined}
 use Rattle.compare.specs.Records.{operationOf, headerOf}
 use Rattle.compare.specs.declared.Operation.{Operation}
 use Rattle.compare.specs.declared.Header.{Header}

@@ -7,7 +7,8 @@ use lib.Dec.{leb, eqb}
 use lib.ListN.{take, drop}
 use Rattle.words.specs.Bytes.{word}
 use Rattle.request.specs.Frames.{longestRequest}
-use Rattle.interface.specs.Calls.{Outcome, outcome, examined, Choosing}
+use Rattle.putting.specs.Outcomes.{Outcome, outcome}
+use Rattle.interface.specs.Calls.{examined, Choosing}
 use Rattle.compare.specs.declared.Operation.{Operation}
 use Rattle.compare.specs.declared.Header.{Header}
 

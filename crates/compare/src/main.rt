@@ -7,7 +7,7 @@ ghost use mathlib.Core.Path.{_≡_};
 ghost use Prim.Native.Nat.{_≤_};
 ghost use lib.ListN.{length};
 ghost use Rattle.request.specs.Frames.{longestRequest};
-ghost use Rattle.interface.specs.Calls.{outcome};
+ghost use Rattle.putting.specs.Outcomes.{outcome};
 ghost use Rattle.compare.specs.Records.{headerOf, Call, Answers};
 
 // What a record asks for.

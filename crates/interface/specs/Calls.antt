@@ -1,10 +1,8 @@
 -- What a call of the interface gives back, whole, for every byte string and every page. Assumes nothing.
 use Prim.Native.Nat.{ℕ}
-use mathlib.Core.Path.{_≡_}
 use mathlib.Core.List.{List, [], _∷_}
-use Rattle.rules.specs.Answers.{refusalNumber, answerNumber, writtenCount, targetNumber, targetValue}
+use Rattle.rules.specs.Answers.{targetNumber, targetValue}
 use Rattle.rules.specs.Explanations.{explanationNumber, explanationFigures, explainedFigures}
-use Rattle.rules.specs.Listing.{listing, writing, pageAfter}
 use Rattle.rules.specs.Examining.{examine}
 use Rattle.rules.specs.Choosing.{Chosen}
 use Rattle.rules.specs.Explaining.{explain}
@@ -18,50 +16,16 @@ use Rattle.rules.specs.declared.Split.{Split}
 use Rattle.rules.specs.declared.Works.{Works}
 use Rattle.rules.specs.declared.Answer.{Answer}
 use Rattle.rules.specs.declared.Census.{Census}
-use Rattle.rules.specs.declared.Written.{Written}
 use Rattle.rules.specs.declared.Explanation.{Explanation}
 use Rattle.rules.specs.declared.LoadAnswer.{LoadAnswer}
 use Rattle.rules.specs.declared.TargetAnswer.{TargetAnswer}
 use Rattle.words.specs.Bytes.{numberBytes}
+use Rattle.putting.specs.Outcomes.{Outcome, putOn, malformed, onData, answered, Answering}
 use Rattle.request.specs.Layout.{decode, askedCandidate, askedSplit, askedLine}
 use Rattle.request.specs.ConsentLayout.{decodeInquiry}
-use Rattle.request.specs.Frames.{candidateWords, worksWords, lineWords, faultNumber}
-use Rattle.request.specs.declared.Fault.{Fault}
+use Rattle.request.specs.Frames.{candidateWords, worksWords, lineWords}
 use Rattle.request.specs.declared.Data.{Data}
-use Rattle.request.specs.declared.Decoded.{Decoded}
 use Rattle.request.specs.declared.DecodedInquiry.{DecodedInquiry}
-
--- the number, the page afterwards and the number of bytes written
-pub record Outcome : Type 0 where
-  pub number : ℕ
-  pub page : List ℕ
-  pub written : ℕ
-
-abbrev pub outcome : ℕ → List ℕ → ℕ → Outcome
-outcome number page written = record { number = number; page = page; written = written }
-
--- the own number of what is written where it fits the page; else that of what writing refuses, 11
-unfoldable pub numberOf : ℕ → Written → ℕ
-numberOf own (Written.Bytes n) = own
-numberOf own (Written.Refused r) = refusalNumber r
-
--- bytes put on a page, and the number that goes with them
-unfoldable pub putOn : ℕ → List ℕ → List ℕ → Outcome
-putOn own bytes page =
-    let result = writing bytes page in
-    outcome (numberOf own result) (pageAfter bytes page) (writtenCount result)
-
--- a decoded request: malformed, with its number and nothing written, or what its data are answered with
-unfoldable pub malformed : Fault → List ℕ → Outcome
-malformed fault page = outcome (faultNumber fault) page 0
-
-unfoldable pub onData : (Data → Outcome) → List ℕ → Decoded → Outcome
-onData answer page (Decoded.Malformed fault) = malformed fault page
-onData answer page (Decoded.Data x) = answer x
-
--- an answer listed on a page, its number 0 for a sheet
-abbrev pub answered : Answer → List ℕ → Outcome
-answered answer page = putOn (answerNumber answer) (listing answer) page
 
 -- a request to examine
 abbrev pub examinedAt : Candidate → List ℕ → Data → Outcome
@@ -69,11 +33,6 @@ examinedAt y page x = answered (examine (x .plant) (x .readings) y) page
 
 unfoldable pub examined : List ℕ → List ℕ → Outcome
 examined bytes page = onData (examinedAt (askedCandidate bytes) page) page (decode bytes candidateWords)
-
--- a request whose answer is told by a property that leaves one: malformed, or an answer that keeps it, put on the page
-abbrev pub Answering : {A : Type 0} → (Data → A → Type 0) → (A → List ℕ → Outcome) → List ℕ → Outcome → Decoded → Type 0
-Answering keeps put page o (Decoded.Malformed fault) = o ≡ malformed fault page
-Answering {A} keeps put page o (Decoded.Data x) = (a : A) × keeps x a × (o ≡ put a page)
 
 -- a request to choose: the listing of the answer that keeps demand 3, which is one (`chosen-once`)
 abbrev pub ChosenFor : Data → Answer → Type 0

@@ -2,64 +2,29 @@
 // lends, and the number of bytes written there.
 use request::Decoded;
 use request::DecodedInquiry;
-use rules::Answer;
+use rules::Candidate;
 use rules::Census;
 use rules::Explained;
 use rules::Explanation;
 use rules::LoadAnswer;
-use rules::Refusal;
 use rules::TargetAnswer;
 use rules::TermExplained;
 use rules::TwoWeekLoad;
 use rules::Verdict;
 use rules::Works;
-use rules::Written;
 ghost use mathlib.Core.Path.{_≡_};
 ghost use Prim.Native.Nat.{_≤_};
 ghost use lib.ListN.{length};
 ghost use Rattle.rules.specs.Limits.{mostLines};
-ghost use Rattle.rules.specs.Answers.{refusalNumber, answerNumber, verdictNumber, targetNumber, targetValue};
+ghost use Rattle.rules.specs.Answers.{verdictNumber, targetNumber, targetValue};
 ghost use Rattle.rules.specs.Explanations.{explanationNumber, explanationFigures};
 ghost use Rattle.rules.specs.DayLog.{loadNumber, loadOf};
-ghost use Rattle.words.specs.Bytes.{numberBytes};
-ghost use Rattle.interface.specs.Calls.{outcome, putOn, answered, examined, Choosing, worksPut, WorksAsked, LineAsked, figured, explained, countsPut, censused, targetPut, targeted, loaded};
+ghost use Rattle.putting.specs.Outcomes.{outcome};
+ghost use Rattle.resuming.specs.States.{startedOn, resumed, AdvancedOn, lookedOn};
+ghost use Rattle.interface.specs.Calls.{examined, Choosing, worksPut, WorksAsked, LineAsked, figured, explained, countsPut, censused, targetPut, targeted, loaded};
 
 // How many figures a works has: eight sums, and fifteen for each of eight lines.
 const WORKS_FIGURES: usize = 128;
-
-// The paper's number of a refusal.
-fn refusal_number(refusal: Refusal) -> u32
-    ensures { λ r. ⌜ r ≡ refusalNumber refusal ⌝ }
-{
-    listing::refusal_number(refusal) as u32
-}
-
-// The paper's number of an answer: 0 for a sheet.
-fn answer_number(answer: Answer) -> u32
-    ensures { λ r. ⌜ r ≡ answerNumber answer ⌝ }
-{
-    match answer {
-        Answer::Designed(_) => 0,
-        Answer::Refused(refusal) => refusal_number(refusal),
-    }
-}
-
-// Writes an answer's listing on the page and the number of its bytes in `written`, and gives the answer's number. A page too
-// short for it is answered by 11, and nothing is written.
-fn put(answer: Answer, page: &mut [u8], written: &mut u64) -> u32
-    ensures { λ r. ⌜ outcome r (now (page .exit)) (now (written .exit)) ≡ answered answer (now (page .entry)) ⌝ }
-{
-    match pewgull::write(answer, page) {
-        Written::Bytes(count) => {
-            *written = count as u64;
-            answer_number(answer)
-        }
-        Written::Refused(refusal) => {
-            *written = 0;
-            refusal_number(refusal)
-        }
-    }
-}
 
 // Examines the candidate of a request. A malformed request is answered by 101 to 103, and nothing is written.
 #[no_mangle]
@@ -75,7 +40,7 @@ pub extern "C" fn pewgull_examine(request: &[u8], page: &mut [u8], written: &mut
             let plant = data.plant;
             let readings = data.readings;
             let candidate = request::candidate(request);
-            put(pewgull::examine(plant, readings, candidate), page, written)
+            putting::put(pewgull::examine(plant, readings, candidate), page, written)
         }
     }
 }
@@ -93,7 +58,7 @@ pub extern "C" fn pewgull_choose(request: &[u8], page: &mut [u8], written: &mut 
         Decoded::Data(data) => {
             let plant = data.plant;
             let readings = data.readings;
-            put(pewgull::choose(plant, readings), page, written)
+            putting::put(pewgull::choose(plant, readings), page, written)
         }
     }
 }
@@ -107,7 +72,7 @@ fn put_works(works: Works, page: &mut [u8], written: &mut u64) -> u32
     let number = verdict_number(verdict) as u32;
     let mut figures = [0u64; WORKS_FIGURES];
     works::figures(works, &mut figures);
-    put_figures(number, &figures, page, written)
+    putting::put_figures(number, &figures, page, written)
 }
 
 // Chooses for every line of the works of a request. A malformed request is answered by 101 to 103, and nothing is written.
@@ -144,7 +109,7 @@ pub extern "C" fn pewgull_line(request: &[u8], page: &mut [u8], written: &mut u6
             let readings = data.readings;
             let split = request::split(request);
             let number = request::line_number(request);
-            put(pewgull::line(plant, readings, split, number), page, written)
+            putting::put(pewgull::line(plant, readings, split, number), page, written)
         }
     }
 }
@@ -155,7 +120,7 @@ fn explanation_number(explanation: Explanation) -> u32
 {
     match explanation {
         Explanation::Figures(_) => 0,
-        Explanation::Refused(refusal) => refusal_number(refusal),
+        Explanation::Refused(refusal) => putting::refusal_number(refusal),
     }
 }
 
@@ -202,21 +167,6 @@ fn verdict_number(verdict: Verdict) -> u64
     }
 }
 
-// Writes figures on the page, eight bytes each, and gives the number that goes with them. A page too short for them is
-// answered by 11, and nothing is written.
-fn put_figures(number: u32, figures: &[u64], page: &mut [u8], written: &mut u64) -> u32
-    ensures { λ r. ⌜ outcome r (now (page .exit)) (now (written .exit))
-        ≡ putOn number (numberBytes (now (figures .entry))) (now (page .entry)) ⌝ }
-{
-    if page.len() / 8 < figures.len() {
-        *written = 0;
-        return refusal_number(Refusal::ShortPage);
-    }
-    words::put_numbers(page, figures);
-    *written = 8 * figures.len() as u64;
-    number
-}
-
 // Writes the figures of an explanation on the page, and gives its number.
 fn put_explanation(explanation: Explanation, page: &mut [u8], written: &mut u64) -> u32
     ensures { λ r. ⌜ outcome r (now (page .exit)) (now (written .exit)) ≡ figured explanation (now (page .entry)) ⌝ }
@@ -259,7 +209,7 @@ fn put_explanation(explanation: Explanation, page: &mut [u8], written: &mut u64)
         fourth.removed_by_bod,
         fourth.removable,
     ];
-    put_figures(number, &figures, page, written)
+    putting::put_figures(number, &figures, page, written)
 }
 
 // Explains the candidate of a request. A malformed request is answered by 101 to 103, and nothing is written.
@@ -288,7 +238,7 @@ fn put_census(census: Census, page: &mut [u8], written: &mut u64) -> u32
 {
     let number = census.number as u32;
     let counts = census.counts;
-    put_figures(number, &counts, page, written)
+    putting::put_figures(number, &counts, page, written)
 }
 
 // The census of the grid for the data of a request. A malformed request is answered by 101 to 103, and nothing is written.
@@ -316,7 +266,7 @@ fn target_number(answer: TargetAnswer) -> u32
     match answer {
         TargetAnswer::InForce(_) => 0,
         TargetAnswer::NoTerm => 0,
-        TargetAnswer::Refused(refusal) => refusal_number(refusal),
+        TargetAnswer::Refused(refusal) => putting::refusal_number(refusal),
     }
 }
 
@@ -337,7 +287,7 @@ fn put_target(answer: TargetAnswer, page: &mut [u8], written: &mut u64) -> u32
 {
     let number = target_number(answer);
     let target = target_value(answer);
-    put_figures(number, &[target], page, written)
+    putting::put_figures(number, &[target], page, written)
 }
 
 // The lowest target in force for the terms and the date of a request. A malformed request is answered by 101 or 102, and
@@ -365,7 +315,7 @@ fn load_number(answer: LoadAnswer) -> u32
 {
     match answer {
         LoadAnswer::Load(_) => 0,
-        LoadAnswer::Refused(refusal) => refusal_number(refusal),
+        LoadAnswer::Refused(refusal) => putting::refusal_number(refusal),
     }
 }
 
@@ -387,5 +337,48 @@ pub extern "C" fn pewgull_load(log: &[u8], page: &mut [u8], written: &mut u64) -
     let answer = pewgull::load(log);
     let number = load_number(answer);
     let load = load_of(answer);
-    put_figures(number, &[load.sum, load.day], page, written)
+    putting::put_figures(number, &[load.sum, load.day], page, written)
+}
+
+// Starts a sweep on the data of a request, and writes its state. A malformed request is answered by 101 to 103, refused data by their
+// usual number, and nothing is written.
+#[no_mangle]
+pub extern "C" fn pewgull_sweep_start(request: &[u8], state: &mut [u8], written: &mut u64) -> u32
+    ensures { λ r. ⌜ outcome r (now (state .exit)) (now (written .exit)) ≡ startedOn (now (request .entry)) (now (state .entry)) ⌝ }
+{
+    resuming::start(request, state, written)
+}
+
+// Advances the sweep of a state by so many candidates. A malformed state is answered by 101 to 103, and nothing is changed.
+#[no_mangle]
+pub extern "C" fn pewgull_sweep_advance(
+    state: &mut [u8],
+    candidates: u32,
+    page: &mut [u8],
+    written: &mut u64,
+) -> u32
+    ensures { λ r. ⌜ AdvancedOn (now (state .entry)) candidates (now (page .entry)) (resumed r (now (state .exit)) (now (page .exit)) (now (written .exit))) ⌝ }
+{
+    resuming::advance(state, candidates, page, written)
+}
+
+// Examines a candidate for the data of a state, which is only read. A malformed state is answered by 101 to 103, and nothing is written.
+#[no_mangle]
+pub extern "C" fn pewgull_sweep_examine(
+    state: &[u8],
+    fraction: u32,
+    return_ratio: u32,
+    thickening: u32,
+    page: &mut [u8],
+    written: &mut u64,
+) -> u32
+    ensures { λ r. ⌜ outcome r (now (page .exit)) (now (written .exit))
+        ≡ lookedOn (now (state .entry)) (record { fraction = fraction; «return_ratio» = «return_ratio»; thickening = thickening }) (now (page .entry)) ⌝ }
+{
+    let candidate = Candidate {
+        fraction,
+        return_ratio,
+        thickening,
+    };
+    resuming::examine(state, candidate, page, written)
 }

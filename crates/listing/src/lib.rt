@@ -35,6 +35,7 @@ pub fn refusal_number(refusal: Refusal) -> u64
         Refusal::TermNitrate => 16,
         Refusal::Bulking => 17,
         Refusal::Lines => 18,
+        Refusal::Advance => 19,
     }
 }
 

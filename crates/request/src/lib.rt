@@ -71,7 +71,7 @@ const PLANT_WORDS: usize = 30;
 const WAY_WORD: usize = 55;
 
 // The words of the data: those, and the way's.
-const DATA_WORDS: usize = 56;
+pub const DATA_WORDS: usize = 56;
 
 // The words of a request for the target of a date: version, consent, month and day.
 const INQUIRY_WORDS: usize = 28;

@@ -34,6 +34,8 @@ pub mod LineLaws
 pub mod WorksLaws
 pub mod WorksOutcomes
 pub mod LineOutcomes
+pub mod SweepOrder
+pub mod BestLaws
 pub mod ByBod
 pub mod ByCod
 pub mod Numeral

@@ -67,6 +67,7 @@ small n =
       | Refusal.TermNitrate ↦ tt
       | Refusal.Bulking ↦ tt
       | Refusal.Lines ↦ tt
+      | Refusal.Advance ↦ tt
     ]
 
 pub refusal-number-between : (n : Refusal) → Between 1 31 (refusalNumber n)

@@ -8,6 +8,7 @@ use Rattle.rules.specs.declared.Acceptance.{Acceptance}
 use Rattle.rules.specs.declared.Answer.{Answer}
 use Rattle.rules.specs.declared.Written.{Written}
 use Rattle.rules.specs.declared.TargetAnswer.{TargetAnswer}
+use Rattle.rules.specs.declared.Progress.{Progress}
 
 -- the paper's number of each refusal
 abbrev pub refusalNumber : Refusal → ℕ
@@ -29,6 +30,7 @@ refusalNumber Refusal.Nitrification = 15
 refusalNumber Refusal.TermNitrate = 16
 refusalNumber Refusal.Bulking = 17
 refusalNumber Refusal.Lines = 18
+refusalNumber Refusal.Advance = 19
 
 -- a sheet of zeros
 unfoldable pub emptySheet : Sheet
@@ -109,3 +111,18 @@ unfoldable pub targetValue : TargetAnswer → ℕ
 targetValue (TargetAnswer.InForce n) = n
 targetValue TargetAnswer.NoTerm = 0
 targetValue (TargetAnswer.Refused n) = 0
+
+-- the number and the sheet of an advance's answer: of a refusal its number and zeros; of an unfinished sweep 100, which is no number
+-- of the paper's, and zeros; of a finished one those of its answer
+abbrev pub unfinishedNumber : ℕ
+unfinishedNumber = 100
+
+unfoldable pub progressNumber : Progress → ℕ
+progressNumber (Progress.Refused n) = refusalNumber n
+progressNumber (Progress.Unfinished b) = unfinishedNumber
+progressNumber (Progress.Finished a) = answerNumber a
+
+unfoldable pub progressSheet : Progress → Sheet
+progressSheet (Progress.Refused n) = emptySheet
+progressSheet (Progress.Unfinished b) = emptySheet
+progressSheet (Progress.Finished a) = answerSheet a

@@ -38,6 +38,7 @@ pub mod WithoutWay
 pub mod Lines
 pub mod Works
 pub mod WorksOutcome
+pub mod Sweep
 pub mod DayLog
 pub mod DayLogOutcome
 pub mod Listing

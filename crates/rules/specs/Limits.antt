@@ -36,6 +36,10 @@ mostTerms = 4
 abbrev pub mostLines : ℕ
 mostLines = 8
 
+-- the candidates that one advance of a sweep asks for
+abbrev pub mostAdvance : ℕ
+mostAdvance = 1_000
+
 -- f, thousandths
 abbrev pub leastFraction : ℕ
 leastFraction = 200

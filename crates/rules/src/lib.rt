@@ -265,6 +265,7 @@ pub enum Refusal {
     TermNitrate,
     Bulking,
     Lines,
+    Advance,
 }
 
 // What a list of rules says: all of them are kept, or the refusal of the first that is broken.
@@ -383,6 +384,22 @@ pub struct Works {
     pub sums: Sums,
     // of the lines in order; zeros past their count
     pub sheets: [Sheet; MOST_LINES],
+}
+
+// The most candidates that one advance of a sweep asks for.
+pub const MOST_ADVANCE: u32 = 1_000;
+
+// The best permitted candidate of a sweep so far.
+pub enum Best {
+    NoneYet,
+    At(Candidate),
+}
+
+// What an advance of a sweep answers: a refusal; that the sweep is unfinished, with the best so far; or what choosing answers.
+pub enum Progress {
+    Refused(Refusal),
+    Unfinished(Best),
+    Finished(Answer),
 }
 
 // A day of the day log.

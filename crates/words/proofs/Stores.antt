@@ -7,7 +7,7 @@ use native.Mathlib.Numerals.{add-one}
 use native.Mathlib.Omega.{arith}
 use lib.ListN.{length, getD, set, drop, length-append, drop-of-length-le}
 use lib.Seq.{sets, sets-eq, drop-cons, drop-length}
-use Rattle.words.specs.Bytes.{word, wordsFrom, lowBytes, chunked, numberBytes}
+use Rattle.words.specs.Bytes.{word, wordsFrom, lowBytes, chunked, numberBytes, wordBytes}
 
 -- a run, and right after it those that are left
 pub stored-run : (x rest l : List ℕ) (i : ℕ) → sets (sets l i x) (i + length x) rest ≡ sets l i (x ++ rest)
@@ -20,14 +20,26 @@ stored-run (a ∷ x) rest l i =
 pub sets-start : (x l : List ℕ) → length x ≤ length l → sets l 0 x ≡ x ++ drop (length x) l
 sets-start x l fits = let room : 0 + length x ≤ length l = omega arith in rw (sets-eq x l 0 room, zero-add)
 
+-- one entry of a list more is stored, and at the end all of them
+pub entry-stored :
+    (list entries : List ℕ) (at i : ℕ) → i < length entries
+    → sets (set list (at + i) (getD entries i 0)) (at + (i + 1)) (drop (i + 1) entries) ≡ sets list (at + i) (drop i entries)
+entry-stored list entries at i below =
+    let step : at + (i + 1) ≡ suc (at + i) = omega arith in
+    rw (step, drop-cons entries i 0 below, add-one i)
+
+pub entries-stored : (list whole entries : List ℕ) (at i : ℕ) → length entries ≤ i → sets list (at + i) (drop i entries) ≡ whole → list ≡ whole
+entries-stored list whole entries at i end e = rw (drop-of-length-le entries end) at e
+
 pub length-words : (bytes : List ℕ) (i count : ℕ) → length (wordsFrom bytes i count) ≡ count
 unfolding wordsFrom
 length-words bytes i zero = refl
 length-words bytes i (suc count) = ap suc (length-words bytes (i + 1) count)
 
-length-eight : (n : ℕ) → length (lowBytes 8 n) ≡ 8
+length-low : (count n : ℕ) → length (lowBytes count n) ≡ count
 unfolding lowBytes
-length-eight n = refl
+length-low zero n = refl
+length-low (suc count) n = ap suc (length-low count (n / 256))
 
 -- chunks of one size
 pub length-chunks : {A : Type 0} (chunk : A → List ℕ) (k : ℕ) → ((a : A) → length (chunk a) ≡ k) → (l : List A) → length (chunked chunk l) ≡ k * length l
@@ -36,7 +48,10 @@ length-chunks chunk k size [] = omega arith
 length-chunks chunk k size (a ∷ l) = length-append (chunk a) (chunked chunk l) ∙ omega (arith, length-chunks chunk k size l, size a)
 
 pub length-numbers : (numbers : List ℕ) → length (numberBytes numbers) ≡ 8 * length numbers
-length-numbers numbers = length-chunks (lowBytes 8) 8 length-eight numbers
+length-numbers numbers = length-chunks (lowBytes 8) 8 (length-low 8) numbers
+
+pub length-word-bytes : (words : List ℕ) → length (wordBytes words) ≡ 4 * length words
+length-word-bytes words = length-chunks (lowBytes 4) 4 (length-low 4) words
 
 -- one word more is stored, and at the end all of them
 pub word-stored :
@@ -60,12 +75,12 @@ words-stored bytes words whole i end e =
 
 -- one byte of a number more is stored
 pub byte-stored :
-    (page : List ℕ) (at k rest : ℕ) → k < 8
-    → sets (set page (at + k) (rest % 256)) (at + (k + 1)) (lowBytes (8 - (k + 1)) (rest / 256))
-    ≡ sets page (at + k) (lowBytes (8 - k) rest)
+    (page : List ℕ) (at count k rest : ℕ) → k < count
+    → sets (set page (at + k) (rest % 256)) (at + (k + 1)) (lowBytes (count - (k + 1)) (rest / 256))
+    ≡ sets page (at + k) (lowBytes (count - k) rest)
 unfolding lowBytes
-byte-stored page at k rest below =
-    let more : 8 - k ≡ suc (8 - (k + 1)) = omega arith in
+byte-stored page at count k rest below =
+    let more : count - k ≡ suc (count - (k + 1)) = omega arith in
     let next : at + (k + 1) ≡ suc (at + k) = omega arith in
     rw (more, next)
 
@@ -89,10 +104,20 @@ pub chunks-stored :
 unfolding chunked
 chunks-stored chunk l page whole at i end e = rw (drop-of-length-le l end) at e
 
--- so of numbers in eight bytes each
+-- so of numbers in eight bytes each, and of words in four
+low-stored :
+    (k : ℕ) (numbers page after : List ℕ) (at i : ℕ) → i < length numbers → after ≡ sets page (at + k * i) (lowBytes k (getD numbers i 0))
+    → sets after (at + k * (i + 1)) (chunked (lowBytes k) (drop (i + 1) numbers)) ≡ sets page (at + k * i) (chunked (lowBytes k) (drop i numbers))
+low-stored k numbers page after at i below e =
+    let next : at + k * (i + 1) ≡ at + k * i + length (lowBytes k (getD numbers i 0)) = omega (arith, length-low k (getD numbers i 0)) in
+    chunk-stored (lowBytes k) 0 numbers page after (at + k * i) (at + k * (i + 1)) i below next e
+
 pub number-stored :
     (numbers page after : List ℕ) (i : ℕ) → i < length numbers → after ≡ sets page (8 * i) (lowBytes 8 (getD numbers i 0))
     → sets after (8 * (i + 1)) (numberBytes (drop (i + 1) numbers)) ≡ sets page (8 * i) (numberBytes (drop i numbers))
-number-stored numbers page after i below e =
-    let next : 8 * (i + 1) ≡ 8 * i + length (lowBytes 8 (getD numbers i 0)) = omega (arith, length-eight (getD numbers i 0)) in
-    chunk-stored (lowBytes 8) 0 numbers page after (8 * i) (8 * (i + 1)) i below next e
+number-stored numbers page after i below e = simp (zero-add) at (low-stored 8 numbers page after 0 i below (simp (zero-add) e))
+
+pub word-bytes-stored :
+    (words page after : List ℕ) (at i : ℕ) → i < length words → after ≡ sets page (at + 4 * i) (lowBytes 4 (getD words i 0))
+    → sets after (at + 4 * (i + 1)) (wordBytes (drop (i + 1) words)) ≡ sets page (at + 4 * i) (wordBytes (drop i words))
+word-bytes-stored words page after at i below e = low-stored 4 words page after at i below e

@@ -30,3 +30,7 @@ chunked chunk (a ∷ rest) = chunk a ++ chunked chunk rest
 -- the bytes of a list of numbers, eight for each
 abbrev pub numberBytes : List ℕ → List ℕ
 numberBytes numbers = chunked (lowBytes 8) numbers
+
+-- and of a list of words, four for each
+abbrev pub wordBytes : List ℕ → List ℕ
+wordBytes words = chunked (lowBytes 4) words

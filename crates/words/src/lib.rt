@@ -4,7 +4,7 @@ ghost use Prim.Native.Nat.{_+_, _*_, _≤_, _<_};
 ghost use lib.ListN.{length};
 ghost use lib.Seq.{sets};
 ghost use lib.Ieee.{binary32, ofBits};
-ghost use Rattle.words.specs.Bytes.{word, wordsFrom, lowBytes, numberBytes};
+ghost use Rattle.words.specs.Bytes.{word, wordsFrom, lowBytes, numberBytes, wordBytes};
 
 // A byte as a wider number.
 pub fn wide(byte: u8) -> u32
@@ -47,13 +47,13 @@ pub fn float(bits: u32) -> f32
     }
 }
 
-// Writes a number in eight bytes, the lowest first, at an index of the page.
-fn put_eight(page: &mut [u8], at: usize, n: u64)
-    requires { ⌜ at + 8 ≤ length (now page) ⌝ }
-    ensures { λ _. ⌜ now (page .exit) ≡ sets (now (page .entry)) at (lowBytes 8 n) ⌝ }
+// Writes the lowest bytes of a number, so many, the lowest first, at an index of the page.
+fn put_low(page: &mut [u8], at: usize, n: u64, count: usize)
+    requires { ⌜ at + count ≤ length (now page) ⌝ }
+    ensures { λ _. ⌜ now (page .exit) ≡ sets (now (page .entry)) at (lowBytes count n) ⌝ }
 {
     let mut rest = n;
-    'byte: for k in 0..8 {
+    'byte: for k in 0..count {
         page[at + k] = (rest % 256) as u8;
         rest /= 256;
     }
@@ -65,7 +65,34 @@ pub fn put_numbers(page: &mut [u8], numbers: &[u64])
     ensures { λ _. ⌜ now (page .exit) ≡ sets (now (page .entry)) 0 (numberBytes (now (numbers .entry))) ⌝ }
 {
     'number: for i in 0..numbers.len() {
-        put_eight(page, 8 * i, numbers[i]);
+        put_low(page, 8 * i, numbers[i], 8);
+    }
+}
+
+// A word as a wider number.
+fn widened(word: u32) -> u64
+    ensures { λ r. ⌜ r ≡ word ⌝ }
+{
+    word as u64
+}
+
+// Writes words from an index of the page on, four bytes each: the page's other bytes stay.
+pub fn put_words(page: &mut [u8], at: usize, words: &[u32])
+    requires { ⌜ at + 4 * length (now words) ≤ length (now page) ⌝ }
+    ensures { λ _. ⌜ now (page .exit) ≡ sets (now (page .entry)) at (wordBytes (now (words .entry))) ⌝ }
+{
+    'word: for i in 0..words.len() {
+        put_low(page, at + 4 * i, widened(words[i]), 4);
+    }
+}
+
+// Writes bytes from the page's start: the page's later bytes stay.
+pub fn put_bytes(page: &mut [u8], bytes: &[u8])
+    requires { ⌜ length (now bytes) ≤ length (now page) ⌝ }
+    ensures { λ _. ⌜ now (page .exit) ≡ sets (now (page .entry)) 0 (now (bytes .entry)) ⌝ }
+{
+    'byte: for i in 0..bytes.len() {
+        page[i] = bytes[i];
     }
 }
 

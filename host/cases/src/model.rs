@@ -1,11 +1,14 @@
 //! What each call of the interface answers, by the reference.
 
-use crate::request::{decode, decode_target, decode_works};
-use crate::request::{CHOOSE_LENGTH, EXAMINE_LENGTH, LINE_LENGTH, WORKS_LENGTH};
+use crate::request::{candidate, decode, decode_state, decode_target, decode_works, words_of};
+use crate::request::{CandidateWords, CHOOSE_LENGTH, EXAMINE_LENGTH, LINE_LENGTH};
+use crate::request::{STATE_LENGTH, WORKS_LENGTH};
 use reference::stages::{InTerm, Stages};
-use reference::{listing, Answer, Sheet};
+use reference::{listing, Answer, Progress, Sheet, Sweep};
 
 pub const SHORT_PAGE: u32 = reference::refusal::SHORT_PAGE as u32;
+/// An advance that leaves its sweep unfinished.
+pub const UNFINISHED: u32 = 100;
 /// Bytes that explaining writes.
 pub const EXPLAIN_PAGE: usize = 8 * FIGURES;
 /// Figures that explaining gives: of the candidate, then of each of four terms.
@@ -186,5 +189,61 @@ pub fn line(request: &[u8], page_length: usize) -> Outcome {
             let answer = reference::line(&data.plant, &data.readings, &data.split, data.line);
             listed(&answer, page_length)
         }
+    }
+}
+
+/// A start: the state of a sweep that nothing was asked of, for the bytes lent to
+/// it, or a refusal and nothing.
+pub fn sweep_start(request: &[u8], state_length: usize) -> Outcome {
+    let data = match decode(request, CHOOSE_LENGTH) {
+        Err(fault) => return nothing(fault),
+        Ok(data) => data,
+    };
+    match reference::sweep::start(&data.plant, &data.readings) {
+        Err(number) => nothing(u32::from(number)),
+        Ok(_) if state_length < STATE_LENGTH => nothing(SHORT_PAGE),
+        Ok(sweep) => Outcome {
+            number: 0,
+            written: put_state(request, &sweep),
+        },
+    }
+}
+
+/// The bytes of a state: the data as they were, then number and best.
+fn put_state(data: &[u8], sweep: &Sweep) -> Vec<u8> {
+    let mut state = data[..CHOOSE_LENGTH].to_vec();
+    state.extend(sweep.asked.to_le_bytes());
+    let best = words_of(sweep.best);
+    state.extend(best.iter().flat_map(|word| word.to_le_bytes()));
+    state
+}
+
+/// An advance: what is written on the page, and the state after it. A sweep
+/// whose listing does not fit stays where it is.
+pub fn sweep_advance(state: &[u8], candidates: u32, page_length: usize) -> (Outcome, Vec<u8>) {
+    let stays = |outcome: Outcome| (outcome, state.to_vec());
+    let sweep = match decode_state(state) {
+        Err(fault) => return stays(nothing(fault)),
+        Ok(sweep) => sweep,
+    };
+    let (next, progress) = match sweep.advance(candidates) {
+        Err(number) => return stays(listed(&Answer::Refused(number), page_length)),
+        Ok(moved) => moved,
+    };
+    let outcome = match progress {
+        Progress::Unfinished(_) => nothing(UNFINISHED),
+        Progress::Finished(answer) => listed(&answer, page_length),
+    };
+    match outcome.number {
+        SHORT_PAGE => stays(outcome),
+        _ => (outcome, put_state(state, &next)),
+    }
+}
+
+/// The listing of a candidate of the sweep's plant.
+pub fn sweep_examine(state: &[u8], place: CandidateWords, page_length: usize) -> Outcome {
+    match decode_state(state) {
+        Err(fault) => nothing(fault),
+        Ok(sweep) => listed(&sweep.examine(candidate(&place)), page_length),
     }
 }

@@ -2,6 +2,7 @@
 
 use reference::works::MOST_LINES;
 use reference::*;
+use std::array::from_fn;
 
 pub const VERSION: usize = 0;
 pub const LOAD: usize = 1;
@@ -66,6 +67,17 @@ pub const SHARES: usize = LINE_COUNT + 1;
 pub const LINE: usize = SHARES + MOST_LINES;
 /// Words of the longest request.
 const MOST_WORDS: usize = LINE + 1;
+
+/// The state of a sweep: after the data the number of candidates asked for so
+/// far, then the best so far, three zeros where there is none yet.
+pub const ASKED: usize = DATA_WORDS;
+pub const BEST: usize = ASKED + 1;
+/// Words of a state.
+pub const STATE_WORDS: usize = BEST + CANDIDATE_WORDS;
+/// A candidate as its words.
+pub type CandidateWords = [u32; CANDIDATE_WORDS];
+/// No candidate yet.
+pub const NONE_YET: CandidateWords = [0; CANDIDATE_WORDS];
 
 /// The readings in their order.
 pub const READINGS: [usize; 5] = [BOD, COD, SOLIDS, NITROGEN, PHOSPHORUS];
@@ -137,6 +149,8 @@ pub const CHOOSE_LENGTH: usize = 4 * DATA_WORDS;
 /// Bytes of a request for a works, and for one of its lines.
 pub const WORKS_LENGTH: usize = 4 * LINE;
 pub const LINE_LENGTH: usize = 4 * (LINE + 1);
+/// Bytes of a sweep's state.
+pub const STATE_LENGTH: usize = 4 * STATE_WORDS;
 
 /// Words of a request for a target: version, consent, and the date asked for.
 pub const ASKED_MONTH: usize = 2 + MOST_TERMS * TERM_WORDS;
@@ -225,6 +239,19 @@ impl Request {
         let mut bytes = self.works_bytes(split);
         bytes.extend(line.to_le_bytes());
         bytes
+    }
+
+    /// The state of a sweep for this plant.
+    pub fn state_bytes(&self, asked: u32, best: CandidateWords) -> Vec<u8> {
+        let mut bytes = self.choose_bytes();
+        bytes.extend(asked.to_le_bytes());
+        bytes.extend(best.iter().flat_map(|word| word.to_le_bytes()));
+        bytes
+    }
+
+    /// The words of the candidate.
+    pub fn candidate_words(&self) -> CandidateWords {
+        from_fn(|place| self.get(FRACTION + place))
     }
 
     pub fn decoded(&self) -> Result<Decoded, u32> {
@@ -380,6 +407,23 @@ fn data(words: &[u32]) -> Result<(Plant, [Reading; 5]), u32> {
     Ok((plant, readings))
 }
 
+/// A candidate from its words.
+pub fn candidate(words: &[u32]) -> Candidate {
+    Candidate {
+        fraction: words[0],
+        return_ratio: words[1],
+        thickening: words[2],
+    }
+}
+
+/// The words of a candidate, or of none yet.
+pub fn words_of(candidate: Option<Candidate>) -> CandidateWords {
+    match candidate {
+        None => NONE_YET,
+        Some(place) => [place.fraction, place.return_ratio, place.thickening],
+    }
+}
+
 /// A request of the given length, or the number of its fault. The candidate
 /// of a request to choose is zeros.
 pub fn decode(bytes: &[u8], length: usize) -> Result<Decoded, u32> {
@@ -388,11 +432,20 @@ pub fn decode(bytes: &[u8], length: usize) -> Result<Decoded, u32> {
     Ok(Decoded {
         plant,
         readings,
-        candidate: Candidate {
-            fraction: words[FRACTION],
-            return_ratio: words[RETURN_RATIO],
-            thickening: words[THICKENING],
-        },
+        candidate: candidate(&words[FRACTION..WORDS]),
+    })
+}
+
+/// A sweep from its state, or the number of the state's fault.
+pub fn decode_state(bytes: &[u8]) -> Result<Sweep, u32> {
+    let words = words(bytes, STATE_LENGTH)?;
+    let (plant, readings) = data(&words)?;
+    let best = &words[BEST..STATE_WORDS];
+    Ok(Sweep {
+        plant,
+        readings,
+        asked: words[ASKED],
+        best: (best != NONE_YET).then(|| candidate(best)),
     })
 }
 

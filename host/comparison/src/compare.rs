@@ -1,5 +1,6 @@
 //! One request or day log to the library and to the reference.
 
+use crate::guarded::Guarded;
 use crate::works::{line_plant, Divided};
 use cases::model::{self, Outcome};
 use library::number::{NO_DESIGN, SHEET};
@@ -17,23 +18,16 @@ pub enum Operation {
     Line,
 }
 
-/// Bytes before and after the page that must stay as they were.
-const MARGIN: usize = 64;
-
-fn pattern(place: usize) -> u8 {
-    (place * 37 + 11) as u8
-}
-
-/// What the library answers: number, count, and the page with its margins.
+/// What the library answers: number, count and page.
 struct Given {
     number: u32,
     written: u64,
-    memory: Vec<u8>,
+    page: Guarded,
 }
 
 fn call(operation: Operation, request: &[u8], page_length: usize) -> Given {
-    let mut memory: Vec<u8> = (0..page_length + 2 * MARGIN).map(pattern).collect();
-    let page = &mut memory[MARGIN..MARGIN + page_length];
+    let mut guarded = Guarded::new(page_length);
+    let page = guarded.lent();
     let (number, written) = match operation {
         Operation::Examine => library::examine(request, page),
         Operation::Choose => library::choose(request, page),
@@ -47,7 +41,7 @@ fn call(operation: Operation, request: &[u8], page_length: usize) -> Given {
     Given {
         number,
         written,
-        memory,
+        page: guarded,
     }
 }
 
@@ -65,18 +59,12 @@ pub fn expected(operation: Operation, request: &[u8], page_length: usize) -> Out
 }
 
 /// Whether the page holds the expected bytes and all else is as it was.
-fn memory_agrees(given: &Given, outcome: &Outcome) -> bool {
-    let end = MARGIN + outcome.written.len();
-    given.memory.iter().enumerate().all(|(place, byte)| {
-        let wanted = match place {
-            _ if place >= MARGIN && place < end => outcome.written[place - MARGIN],
-            _ => pattern(place),
-        };
-        *byte == wanted
-    })
+fn page_agrees(given: &Given, outcome: &Outcome) -> bool {
+    let untouched = Guarded::new(given.page.bytes().len());
+    given.page == untouched.starting(&outcome.written)
 }
 
-fn hex(bytes: &[u8]) -> String {
+pub fn hex(bytes: &[u8]) -> String {
     bytes.iter().map(|byte| format!("{byte:02x}")).collect()
 }
 
@@ -87,7 +75,7 @@ fn numbers(bytes: &[u8]) -> Vec<u64> {
 }
 
 /// Text of a listing, or numbers.
-fn shown(bytes: &[u8]) -> String {
+pub fn shown(bytes: &[u8]) -> String {
     match std::str::from_utf8(bytes) {
         Ok(text) if !text.contains('\0') => text.replace('\n', "; "),
         _ => format!("{:?}", numbers(bytes)),
@@ -102,7 +90,7 @@ fn report(
     outcome: &Outcome,
 ) -> String {
     let count = (given.written as usize).min(page_length);
-    let page = &given.memory[MARGIN..MARGIN + count];
+    let page = &given.page.bytes()[..count];
     let mut text = format!("{operation:?}, page of {page_length}: {}\n", hex(request));
     text += &format!(
         "  library    {} {} {}\n",
@@ -116,7 +104,7 @@ fn report(
         outcome.number,
         shown(&outcome.written)
     );
-    if !memory_agrees(given, outcome) {
+    if !page_agrees(given, outcome) {
         text += "\n  bytes of the page, or around it, differ from the expected ones";
     }
     text
@@ -132,7 +120,7 @@ pub fn agree(
     let given = call(operation, request, page_length);
     let same = given.number == outcome.number
         && given.written == outcome.written.len() as u64
-        && memory_agrees(&given, outcome);
+        && page_agrees(&given, outcome);
     if same {
         Ok(outcome.number)
     } else {
@@ -168,7 +156,7 @@ pub fn compare_census(request: &[u8]) -> Result<u32, String> {
 }
 
 /// Number and listing that a call gives.
-fn listed(call: fn(&[u8], &mut [u8]) -> (u32, u64), request: &[u8]) -> (u32, Vec<u8>) {
+pub fn listed(call: fn(&[u8], &mut [u8]) -> (u32, u64), request: &[u8]) -> (u32, Vec<u8>) {
     let mut page = [0; PAGE_LENGTH];
     let (number, written) = call(request, &mut page);
     (number, page[..written as usize].to_vec())

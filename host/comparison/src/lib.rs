@@ -3,8 +3,11 @@
 pub mod cod;
 pub mod compare;
 pub mod counts;
+pub mod guarded;
 pub mod logs;
 pub mod requests;
 pub mod stack;
+pub mod sweep_calls;
+pub mod sweeps;
 pub mod targets;
 pub mod works;

@@ -96,7 +96,7 @@ fn edged_index(random: &mut Random, request: Request) -> Request {
 }
 
 /// A candidate at an edge of the grid or past it.
-fn edged_candidate(random: &mut Random, request: Request) -> Request {
+pub fn edged_candidate(random: &mut Random, request: Request) -> Request {
     let fraction = random.pick(&[199, 200, 500, 501, 1_000, 350, 350, 350]);
     let ratio = random.pick(&[29, 30, 75, 76, 100, 101, 50, 50, 50, u32::MAX - 99]);
     let time = random.pick(&[19, 20, 25, 26, 22, 22, 22, 0]);
@@ -132,7 +132,7 @@ fn damaged_length(random: &mut Random, mut bytes: Vec<u8>) -> Vec<u8> {
 }
 
 /// A request of which a reading, a figure, the candidate or a word may be odd.
-fn any_plant(random: &mut Random, tanks: &OnLines) -> Request {
+pub fn any_plant(random: &mut Random, tanks: &OnLines) -> Request {
     let request = sound(random, tanks);
     match random.within(0, 15) {
         0 | 1 => odd_reading(random, request),

@@ -1,7 +1,7 @@
 //! How much stack a call takes: it runs on memory filled with a pattern, and
 //! the part that was overwritten is measured. And calls further down the stack.
 
-use library::Call;
+use library::{Call, ADVANCE_MOST, PAGE_LENGTH, STATE_LENGTH};
 use std::arch::asm;
 use std::hint::black_box;
 
@@ -46,6 +46,55 @@ pub fn stack_of(call: Call, request: &[u8], page: &mut [u8]) -> (u32, usize) {
     let usable = top as usize - memory.as_ptr() as usize;
     let untouched = memory.iter().take_while(|byte| **byte == FILLED).count();
     (number, usable.saturating_sub(untouched))
+}
+
+/// An advance by the most candidates with a state and a page that lie one after
+/// the other.
+///
+/// Safety: as for the archive's function; the memory is longer than a state.
+unsafe extern "C" fn advance(
+    _: *const u8,
+    _: usize,
+    memory: *mut u8,
+    length: usize,
+    written: *mut u64,
+) -> u32 {
+    let page = memory.add(STATE_LENGTH);
+    let page_length = length - STATE_LENGTH;
+    library::SWEEP_ADVANCE(
+        memory,
+        STATE_LENGTH,
+        ADVANCE_MOST,
+        page,
+        page_length,
+        written,
+    )
+}
+
+/// The same of an advance by the most candidates; a few words of it are its
+/// caller's.
+pub fn stack_of_advance(state: &[u8]) -> (u32, usize) {
+    let mut memory = state.to_vec();
+    memory.resize(STATE_LENGTH + PAGE_LENGTH, 0);
+    stack_of(advance, &[], &mut memory)
+}
+
+/// Examines a candidate from the middle of the grid with a state.
+///
+/// Safety: as for the archive's function.
+unsafe extern "C" fn examine(
+    state: *const u8,
+    state_length: usize,
+    page: *mut u8,
+    page_length: usize,
+    written: *mut u64,
+) -> u32 {
+    library::SWEEP_EXAMINE(state, state_length, 350, 50, 22, page, page_length, written)
+}
+
+/// The same of an examination with a state; a few words of it are its caller's.
+pub fn stack_of_examination(state: &[u8]) -> (u32, usize) {
+    stack_of(examine, state, &mut [0; PAGE_LENGTH])
 }
 
 /// Calls with the stack some frames of at least 256 bytes further down.

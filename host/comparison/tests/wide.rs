@@ -1,5 +1,8 @@
 //! Wide comparison of the library with the reference, from fixed seeds.
 
+#[path = "wide/sweeps.rs"]
+mod sweeps;
+
 use cases::groups;
 use cases::random::Random;
 use cases::tanks::OnLines;
@@ -8,7 +11,8 @@ use comparison::compare::{agree, compare, compare_census, compare_lines, expecte
 use comparison::counts::{in_parts, settle, Found};
 use comparison::logs;
 use comparison::requests;
-use comparison::stack::stack_of;
+use comparison::stack::{stack_of, stack_of_advance, stack_of_examination};
+use comparison::sweep_calls::grid_number;
 use comparison::targets;
 use comparison::works::{self, Divided};
 use library::number::*;
@@ -43,11 +47,12 @@ fn random_requests(operation: Operation, seed: u64, count: usize) -> Found {
     })
 }
 
-/// So many answers of each number but these, a day log's and a split's.
+/// So many answers of each number but these, a day log's, a split's and those of
+/// an advance.
 fn all_but(not_given: &[u32], least: usize) -> Vec<(u32, usize)> {
     let numbers = ALL.iter().map(|known| known.number);
     numbers
-        .filter(|number| ![DAY_LOG, DAY_VALUE, LINES].contains(number))
+        .filter(|number| ![DAY_LOG, DAY_VALUE, LINES, ADVANCE, UNFINISHED].contains(number))
         .filter(|number| !not_given.contains(number))
         .map(|number| (number, least))
         .collect()
@@ -517,12 +522,23 @@ fn stack_as_stated() {
             (library::TARGET, &target, 3_000),
             (library::WORKS, &works, 21_000),
             (library::LINE, &line, 17_000),
+            (library::SWEEP_START, &choose, 3_000),
         ] {
             let (_, taken) = stack_of(call, bytes, &mut [0; WORKS_PAGE]);
-            assert!(
-                taken <= stated,
-                "{taken} bytes, include/pewgull.h states {stated}"
-            );
+            within_stated(taken, stated);
+        }
+        let last = grid_number(&request) - library::ADVANCE_MOST;
+        for number in [0, 40_000, last] {
+            let state = request.state_bytes(number, cases::request::NONE_YET);
+            within_stated(stack_of_advance(&state).1, 17_000);
+            within_stated(stack_of_examination(&state).1, 3_000);
         }
     }
+}
+
+fn within_stated(taken: usize, stated: usize) {
+    assert!(
+        taken <= stated,
+        "{taken} bytes, include/pewgull.h states {stated}"
+    );
 }

@@ -1,5 +1,5 @@
-//! The calls: the bytes of a request or of a day log in, the answer's number
-//! and the count of bytes written on the page out.
+//! The calls: the bytes of a request, of a day log or of a sweep's state in, the
+//! answer's number and the count of bytes written on the page out.
 
 /// Pointer and length of the request, pointer and length of the page, and
 /// where the count of bytes written goes.
@@ -63,6 +63,95 @@ calls! {
     /// Chooses for one line of a works, by a request of `LINE_LENGTH` bytes,
     /// whatever the other lines get, and writes the listing.
     line, LINE: pewgull_line;
+
+    /// Starts a sweep for a request of `CHOOSE_LENGTH` bytes and writes the
+    /// `STATE_LENGTH` bytes of its state; nothing where the data are refused.
+    sweep_start, SWEEP_START: pewgull_sweep_start;
+}
+
+extern "C" {
+    fn pewgull_sweep_advance(
+        state: *mut u8,
+        state_length: usize,
+        candidates: u32,
+        page: *mut u8,
+        page_length: usize,
+        written: *mut u64,
+    ) -> u32;
+
+    fn pewgull_sweep_examine(
+        state: *const u8,
+        state_length: usize,
+        fraction: u32,
+        return_ratio: u32,
+        thickening: u32,
+        page: *mut u8,
+        page_length: usize,
+        written: *mut u64,
+    ) -> u32;
+}
+
+/// Pointer and length of the state, the candidates asked for, and the rest as
+/// for a `Call`.
+pub type AdvanceCall = unsafe extern "C" fn(*mut u8, usize, u32, *mut u8, usize, *mut u64) -> u32;
+
+/// Pointer and length of the state, the candidate's three numbers, and the rest
+/// as for a `Call`.
+pub type ExamineCall =
+    unsafe extern "C" fn(*const u8, usize, u32, u32, u32, *mut u8, usize, *mut u64) -> u32;
+
+/// The archive's function itself.
+pub const SWEEP_ADVANCE: AdvanceCall = pewgull_sweep_advance;
+/// The archive's function itself.
+pub const SWEEP_EXAMINE: ExamineCall = pewgull_sweep_examine;
+
+/// Goes on with the sweep of a state of `STATE_LENGTH` bytes, in place, by so
+/// many candidates, at most `ADVANCE_MOST`. Gives `UNFINISHED` and writes
+/// nothing on the page, or what `choose` gives and writes the listing.
+///
+/// Gives the answer's number and the bytes written.
+pub fn sweep_advance(state: &mut [u8], candidates: u32, page: &mut [u8]) -> (u32, u64) {
+    let mut written = 0;
+    // Safety: as in `call`; the state is borrowed mutably too.
+    let number = unsafe {
+        pewgull_sweep_advance(
+            state.as_mut_ptr(),
+            state.len(),
+            candidates,
+            page.as_mut_ptr(),
+            page.len(),
+            &mut written,
+        )
+    };
+    (number, written)
+}
+
+/// Examines a candidate of the plant whose sweep has this state of
+/// `STATE_LENGTH` bytes, and writes the listing. The sweep stays where it is.
+///
+/// Gives the answer's number and the bytes written.
+pub fn sweep_examine(
+    state: &[u8],
+    fraction: u32,
+    return_ratio: u32,
+    thickening: u32,
+    page: &mut [u8],
+) -> (u32, u64) {
+    let mut written = 0;
+    // Safety: as in `call`.
+    let number = unsafe {
+        pewgull_sweep_examine(
+            state.as_ptr(),
+            state.len(),
+            fraction,
+            return_ratio,
+            thickening,
+            page.as_mut_ptr(),
+            page.len(),
+            &mut written,
+        )
+    };
+    (number, written)
 }
 
 fn call(function: Call, request: &[u8], page: &mut [u8]) -> (u32, u64) {

@@ -1,5 +1,5 @@
-//! The proved calls over their C interface, and the bytes of a request and of
-//! a day log.
+//! The proved calls over their C interface, and the bytes of a request, of a
+//! day log and of a sweep's state.
 
 mod calls;
 mod census;
@@ -9,10 +9,13 @@ pub mod number;
 mod page;
 mod request;
 pub mod sheet;
+mod sweep;
 mod terms;
 mod works;
 
 pub use calls::{census, choose, examine, explain, line, load, target, works};
+pub use calls::{sweep_advance, sweep_examine, sweep_start};
+pub use calls::{AdvanceCall, ExamineCall, SWEEP_ADVANCE, SWEEP_EXAMINE, SWEEP_START};
 pub use calls::{Call, CENSUS, CHOOSE, EXAMINE, EXPLAIN, LINE, LOAD, TARGET, WORKS};
 pub use census::{Census, CENSUS_LENGTH, COUNTED};
 pub use figures::{Figures, TermFigures, FIGURES_LENGTH};
@@ -21,6 +24,7 @@ pub use request::{
     Candidate, Precipitant, PrimarySettling, Process, Reading, Removal, Request, TankFlow, Way,
     CHOOSE_LENGTH, EXAMINE_LENGTH, EXPLAIN_LENGTH, LINE_LENGTH, VERSION, WORKS_LENGTH,
 };
+pub use sweep::{Progress, ADVANCE_MOST, STATE_LENGTH};
 pub use terms::{target_from_page, Date, Term, Terms, MOST_TERMS, TARGET_LENGTH, TARGET_PAGE};
 pub use works::{Split, Works, LEAST_LINES, LEAST_SHARE, MOST_LINES, SUMS, WHOLE, WORKS_PAGE};
 

@@ -39,15 +39,17 @@ numbers! {
     TERM_NITRATE 16 "term nitrate";
     BULKING 17 "bulking sludge";
     LINES 18 "lines";
+    ADVANCE 19 "advance";
+    UNFINISHED 100 "unfinished";
     BAD_LENGTH 101 "bad length";
     BAD_VERSION 102 "bad version";
     BAD_KIND 103 "bad kind";
 }
 
-/// Whether a number says that the data, the candidate, the day log, the date or
-/// the split are refused.
+/// Whether a number says that the data, the candidate, the day log, the date,
+/// the split or the advance are refused.
 pub fn is_refusal(number: u32) -> bool {
-    number != SHEET && number != SHORT_PAGE && number < BAD_LENGTH
+    number != SHEET && number != SHORT_PAGE && number < UNFINISHED
 }
 
 /// The short word of a number.

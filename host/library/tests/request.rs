@@ -6,7 +6,7 @@ use common::{case_a, CASE_A_CANDIDATE};
 use library::{
     Candidate, Date, Precipitant, PrimarySettling, Process, Reading, Removal, Request, Split,
     TankFlow, Term, Terms, Way, CHOOSE_LENGTH, EXAMINE_LENGTH, EXPLAIN_LENGTH, LINE_LENGTH,
-    TARGET_LENGTH, WORKS_LENGTH,
+    STATE_LENGTH, TARGET_LENGTH, WORKS_LENGTH,
 };
 
 fn word(bytes: &[u8], place: usize) -> u32 {
@@ -23,6 +23,7 @@ fn lengths_are_those_of_the_header_for_c() {
         ("TARGET", TARGET_LENGTH),
         ("WORKS", WORKS_LENGTH),
         ("LINE", LINE_LENGTH),
+        ("STATE", STATE_LENGTH),
     ];
     for (call, length) in lengths {
         let line = format!("#define PEWGULL_{call}_LENGTH {length}\n");

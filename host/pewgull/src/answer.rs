@@ -37,7 +37,7 @@ pub fn examine(request: &Request, candidate: Candidate) -> Answer {
 }
 
 /// A listing, as the library wrote it.
-fn listed(number: u32, listing: &[u8]) -> Answer {
+pub fn listed(number: u32, listing: &[u8]) -> Answer {
     let members = match number {
         SHEET => json::members(&String::from_utf8_lossy(listing)),
         _ => Vec::new(),
@@ -52,7 +52,7 @@ fn listed(number: u32, listing: &[u8]) -> Answer {
 }
 
 /// A refusal, as the library would list it.
-fn refused(number: u32) -> Answer {
+pub fn refused(number: u32) -> Answer {
     listed(number, format!("refused {number}\n").as_bytes())
 }
 

@@ -1,9 +1,10 @@
 //! The command line, and the table of the commands.
 
 use crate::answer::{self, Answer};
+use crate::sweep;
 use crate::values;
 use library::sheet::{Side, GRID};
-use library::{Candidate, Date, Request, Split, Terms};
+use library::{Candidate, Date, Request, Split, Terms, ADVANCE_MOST};
 use std::ffi::OsString;
 
 /// What a command takes, and the call that answers it.
@@ -19,6 +20,8 @@ pub enum Action {
     Date(fn(&Terms, Date) -> Answer),
     /// `FILE...`: each works by itself, split by its shares
     Works(fn(&Request, &Split) -> Answer),
+    /// `FILE`: one plant, some candidates at a time
+    Sweep,
 }
 
 pub struct Form {
@@ -64,6 +67,11 @@ pub const COMMANDS: &[Form] = &[
         about: "prints the sums of a works in several lines, and the sheet of each line",
         action: Action::Works(answer::works),
     },
+    Form {
+        name: "sweep",
+        about: "prints what choose does, by some candidates at a time; can be put down",
+        action: Action::Sweep,
+    },
 ];
 
 impl Form {
@@ -74,15 +82,35 @@ impl Form {
             Action::Candidate(_) => "FILE F R H",
             Action::Logs(_) => "[--csv] LOG...",
             Action::Date(_) => "FILE MM-DD",
+            Action::Sweep => "FILE [--by N] [--state FILE]",
+        }
+    }
+
+    /// An option that is another command's alone is an error.
+    fn allows(&self, given: &Words) -> Result<(), String> {
+        let options = [
+            ("--csv", given.csv, "load"),
+            ("--by", given.by.is_some(), "sweep"),
+            ("--state", given.state.is_some(), "sweep"),
+        ];
+        let mut options = options.iter().filter(|(_, is_given, _)| *is_given);
+        match options.find(|(_, _, command)| *command != self.name) {
+            None => Ok(()),
+            Some((option, _, command)) => Err(usage(&format!(
+                "{option} is for the command {command} alone"
+            ))),
         }
     }
 
     /// Its task, and its files.
-    fn read(&self, words: &[OsString], csv: bool) -> Result<(Task, Vec<OsString>), String> {
+    fn read(&self, words: &[OsString], given: &Words) -> Result<(Task, Vec<OsString>), String> {
         match self.action {
             Action::Plants(call) => Ok((Task::Plants(call), self.files(words)?)),
             Action::Works(call) => Ok((Task::Works(call), self.files(words)?)),
-            Action::Logs(call) => Ok((Task::Logs { call, csv }, self.files(words)?)),
+            Action::Logs(call) => {
+                let csv = given.csv;
+                Ok((Task::Logs { call, csv }, self.files(words)?))
+            }
             Action::Candidate(call) => {
                 let (file, candidate) = file_and_candidate(self.name, words)?;
                 Ok((Task::Candidate(call, candidate), vec![file]))
@@ -91,6 +119,24 @@ impl Form {
                 let (file, date) = file_and_date(self.name, words)?;
                 Ok((Task::Date(call, date), vec![file]))
             }
+            Action::Sweep => {
+                let file = self.one_file(words)?;
+                let (by, state) = (by(given)?, state(given)?);
+                Ok((Task::Sweep(sweep::Options { by, state }), vec![file]))
+            }
+        }
+    }
+
+    /// One file alone.
+    fn one_file(&self, words: &[OsString]) -> Result<OsString, String> {
+        match words {
+            [file] => Ok(file.clone()),
+            _ => Err(usage(&format!(
+                "expected {} {}, one file (words given: {})",
+                self.name,
+                self.words(),
+                words.len()
+            ))),
         }
     }
 
@@ -104,7 +150,6 @@ impl Form {
 }
 
 /// What is to be done with each file of a command.
-#[derive(Clone, Copy)]
 pub enum Task {
     Plants(fn(&Request) -> Answer),
     Candidate(fn(&Request, Candidate) -> Answer, Candidate),
@@ -115,6 +160,7 @@ pub enum Task {
     },
     Date(fn(&Terms, Date) -> Answer, Date),
     Works(fn(&Request, &Split) -> Answer),
+    Sweep(sweep::Options),
 }
 
 /// A command with its words.
@@ -140,13 +186,16 @@ struct Words {
     version: bool,
     json: bool,
     csv: bool,
+    by: Option<OsString>,
+    state: Option<OsString>,
     plain: Vec<OsString>,
 }
 
 fn sort(words: &[OsString]) -> Result<Words, String> {
     let mut sorted = Words::default();
     let mut options_ended = false;
-    for word in words {
+    let mut words = words.iter();
+    while let Some(word) = words.next() {
         let text = word.to_string_lossy();
         match text.as_ref() {
             _ if options_ended => sorted.plain.push(word.clone()),
@@ -155,9 +204,11 @@ fn sort(words: &[OsString]) -> Result<Words, String> {
             "--version" => sorted.version = true,
             "--json" => sorted.json = true,
             "--csv" => sorted.csv = true,
+            "--by" => put(&mut sorted.by, "--by", "a whole number", words.next())?,
+            "--state" => put(&mut sorted.state, "--state", "a file", words.next())?,
             option if is_option(option) => {
                 return Err(usage(&format!(
-                    "'{}' is no option; expected --json, --csv, --help or --version",
+                    "'{}' is no option; expected --json, --csv, --by, --state, --help or --version",
                     values::shown(option)
                 )))
             }
@@ -165,6 +216,29 @@ fn sort(words: &[OsString]) -> Result<Words, String> {
         }
     }
     Ok(sorted)
+}
+
+/// Puts in the word after an option.
+fn put(
+    place: &mut Option<OsString>,
+    option: &str,
+    expected: &str,
+    word: Option<&OsString>,
+) -> Result<(), String> {
+    if place.is_some() {
+        return Err(usage(&format!(
+            "{option} was given already; expected it once"
+        )));
+    }
+    match word.filter(|word| !is_option(&word.to_string_lossy())) {
+        Some(value) => *place = Some(value.clone()),
+        None => {
+            return Err(usage(&format!(
+                "{option} has no value; expected {expected}"
+            )))
+        }
+    }
+    Ok(())
 }
 
 /// A negative number is no option: it is told of as a number. A hyphen alone
@@ -206,15 +280,36 @@ pub fn parse(words: &[OsString]) -> Result<Order, String> {
             names()
         )));
     };
-    if sorted.csv && !matches!(form.action, Action::Logs(_)) {
-        return Err(usage("--csv is for the command load alone"));
-    }
-    let (task, files) = form.read(rest, sorted.csv)?;
+    form.allows(&sorted)?;
+    let (task, files) = form.read(rest, &sorted)?;
     Ok(Order::Run(Command {
         task,
         json: sorted.json,
         files,
     }))
+}
+
+/// `--by N`. More candidates than an advance takes are the library's to refuse.
+fn by(given: &Words) -> Result<u32, String> {
+    let word = given.by.as_ref().map(|word| word.to_string_lossy());
+    let wrong = match word.map_or(Ok(ADVANCE_MOST), |word| values::whole(&word)) {
+        Ok(0) => "a sweep by 0 candidates never ends".to_string(),
+        Ok(by) => return Ok(by),
+        Err(wrong) => wrong,
+    };
+    Err(usage(&format!(
+        "--by: {wrong}; expected a whole number, 1..{ADVANCE_MOST}"
+    )))
+}
+
+/// `--state FILE`.
+fn state(given: &Words) -> Result<Option<OsString>, String> {
+    match &given.state {
+        Some(state) if state == "-" => {
+            Err(usage("--state: '-' cannot keep a state; expected a file"))
+        }
+        state => Ok(state.clone()),
+    }
 }
 
 /// FILE MM-DD.

@@ -8,18 +8,23 @@ use crate::values::listed;
 use crate::works::SPLIT;
 use library::number;
 use library::sheet::{GRID, LINES};
+use library::{ADVANCE_MOST, STATE_LENGTH};
 use library::{COUNTED, KIT, MOST_TERMS, SUMS, VERSION};
 use library::{LEAST_DAYS, MOST_BOD, MOST_DAYS, MOST_FLOW};
 
+/// A line for the commands that take the same words.
 fn usage() -> String {
+    let mut lines: Vec<(String, &str)> = Vec::new();
+    for form in COMMANDS {
+        match lines.iter_mut().find(|(_, words)| *words == form.words()) {
+            Some((names, _)) => *names += &format!("|{}", form.name),
+            None => lines.push((form.name.to_string(), form.words())),
+        }
+    }
     let mut text = String::new();
-    for (place, form) in COMMANDS.iter().enumerate() {
+    for (place, (names, words)) in lines.iter().enumerate() {
         let start = if place == 0 { "Usage:" } else { "      " };
-        text += &format!(
-            "{start} pewgull {:<7} [--json] {}\n",
-            form.name,
-            form.words()
-        );
+        text += &format!("{start} pewgull {names} [--json] {words}\n");
     }
     text + "       pewgull help (all lines, keys, ranges, refusals) | --help | --version\n"
 }
@@ -44,13 +49,14 @@ fn grid() -> String {
 }
 
 const STATUS: &str = "\
-Exit status: 0 an answer; 1 a refusal; 2 a file or usage error
+Exit status: 0 an answer; 1 a refusal; 2 a file or usage error; 130 interrupted
 ";
 
 /// What `--help` prints: a screen.
 pub fn short() -> String {
     format!(
         "{}\n{}--json   prints one JSON object for each file, on a line of its own\n\
+         --by     candidates of an advance, 1..{ADVANCE_MOST}; --state: a file that keeps the sweep\n\
          FILE     a plant file (examples/case-a.plant has every key); - is standard input\n\
          LOG      a day log; with --csv a text file, flow and BOD in a line for each day\n\
          {}{STATUS}\
@@ -74,6 +80,7 @@ pub fn manual() -> String {
         COUNTED.map(census::label).join(", ")
     );
     text += &works();
+    text += &sweep();
     text += &day_log();
     text += "\nThe line of a target\n  \
              target         lowest nitrate target in force that day, mg/m3; 0: no term runs\n";
@@ -134,6 +141,20 @@ fn works() -> String {
         "\nThe lines of a works\n  {}\n\
          Each is the sum over the works' lines. Then '# line 1' and its sheet, and so on.\n",
         SUMS.join(", ")
+    )
+}
+
+/// What a sweep does, and what its options are.
+fn sweep() -> String {
+    format!(
+        "\nA sweep\n\
+         It asks for the candidates of the grid by rising F, then R, then H, --by N at a\n\
+         time, 1..{ADVANCE_MOST} (left out: {ADVANCE_MOST}), and prints at last what choose prints. On a\n\
+         terminal it shows how many it has asked for, and the best so far. Interrupted,\n\
+         by Ctrl-C or kill, it stops after the advance under way. With --state its state\n\
+         is kept in a file, {STATE_LENGTH} bytes that are the same on every machine; the command\n\
+         given again goes on from there, or prints the answer again. A file that is not\n\
+         there yet starts a new sweep; one of other plant data is left as it is.\n"
     )
 }
 

@@ -6,7 +6,7 @@ use crate::explanation::{self, LEAST_SOLIDS, MOST_SLUDGE_VOLUME};
 use crate::keys::{MOST_DOSE, MOST_DOSE_WITHOUT_SLUDGE, MOST_INDEX};
 use crate::plant_file::PlantFile;
 use crate::season;
-use crate::values::filled;
+use crate::values::{filled, grouped};
 use library::number::{self, *};
 use library::sheet::{candidates, GRID};
 use library::{Candidate, Figures, Request, TankFlow, Way};
@@ -61,11 +61,9 @@ fn flow_name(tank: TankFlow) -> &'static str {
 
 /// How many candidates the grid holds, where none is permitted.
 pub fn none_permitted(request: &Request) -> String {
-    let count = candidates(request.tank);
     format!(
-        "the grid holds {},{:03} candidates in {} flow, and none is permitted.",
-        count / 1000,
-        count % 1000,
+        "the grid holds {} candidates in {} flow, and none is permitted.",
+        grouped(candidates(request.tank).into()),
         flow_name(request.tank)
     )
 }

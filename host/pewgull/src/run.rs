@@ -4,27 +4,25 @@ use crate::answer::Answer;
 use crate::arguments::{Command, Task};
 use crate::consent;
 use crate::day_file::{self, Log};
+use crate::input::{contents, reason};
 use crate::json::{self, Member};
 use crate::load;
 use crate::plant_file::{self, PlantFile};
 use crate::refusal;
+use crate::sweep::{self, End, Options};
 use crate::text_file::Fault;
-use crate::values::escaped;
+use crate::values::{escaped, grouped};
 use crate::works;
 use library::number::{self, is_refusal, SHEET};
 use library::Split;
 use std::ffi::OsStr;
-use std::fs::File;
-use std::io::{self, ErrorKind, Read};
 
 /// Exit status of a refusal.
 pub const REFUSED: u8 = 1;
 /// Exit status of a file or usage error.
 pub const FILE_ERROR: u8 = 2;
-
-/// A plant file is some hundred bytes, a day log some thousand; what is longer
-/// is something else.
-const LONGEST_FILE: u64 = 1 << 20;
+/// Exit status of a sweep that is put down, as a shell has it for Ctrl-C.
+pub const INTERRUPTED: u8 = 130;
 
 /// What a command on a file prints, says on standard error and ends with.
 pub struct Outcome {
@@ -79,7 +77,7 @@ fn error(messages: Vec<String>) -> Found {
 
 /// What comes of a file, or why it cannot be answered for.
 fn found(command: &Command, file: &OsStr, name: &str) -> Result<Found, Vec<String>> {
-    match command.task {
+    match &command.task {
         Task::Plants(call) => {
             let plant = read(file, name, plant_file::parse)?;
             settled(call(&plant.request), name, |number| {
@@ -88,18 +86,18 @@ fn found(command: &Command, file: &OsStr, name: &str) -> Result<Found, Vec<Strin
         }
         Task::Candidate(call, candidate) => {
             let plant = read(file, name, plant_file::parse)?;
-            settled(call(&plant.request, candidate), name, |number| {
-                refusal::words(number, &plant, Some(candidate))
+            settled(call(&plant.request, *candidate), name, |number| {
+                refusal::words(number, &plant, Some(*candidate))
             })
         }
         Task::Logs { call, csv } => {
-            let log = read_log(file, name, csv)?;
+            let log = read_log(file, name, *csv)?;
             settled(call(&log.bytes), name, |number| load::words(number, &log))
         }
         Task::Date(call, date) => {
             let plant = read(file, name, plant_file::parse_terms)?;
-            settled(call(&plant.request.terms, date), name, |number| {
-                consent::words(number, &plant, date)
+            settled(call(&plant.request.terms, *date), name, |number| {
+                consent::words(number, &plant, *date)
             })
         }
         Task::Works(call) => {
@@ -109,6 +107,39 @@ fn found(command: &Command, file: &OsStr, name: &str) -> Result<Found, Vec<Strin
                 works::words(number, &plant)
             })
         }
+        Task::Sweep(options) => swept(options, command.json, file, name),
+    }
+}
+
+/// What comes of a sweep for the plant of a file.
+fn swept(options: &Options, json: bool, file: &OsStr, name: &str) -> Result<Found, Vec<String>> {
+    let plant = read(file, name, plant_file::parse)?;
+    match sweep::run(&plant.request, options) {
+        Err(wrong) => Err(vec![format!("{name}: {wrong}")]),
+        Ok(End::Answered(answer, words)) => settled(answer, name, |number| {
+            words.unwrap_or_else(|| refusal::words(number, &plant, None))
+        }),
+        Ok(End::Interrupted { asked, grid }) => {
+            let kept = sweep::kept(options, file, json);
+            Ok(interrupted(name, asked, grid, &kept))
+        }
+    }
+}
+
+/// A sweep that was put down: how far it came, and what was kept of it.
+fn interrupted(name: &str, asked: u32, grid: u32, kept: &str) -> Found {
+    let of = format!("{} of {}", grouped(asked.into()), grouped(grid.into()));
+    let message = format!("{name}: interrupted after {of} candidates; {kept}");
+    Found {
+        status: INTERRUPTED,
+        text: Vec::new(),
+        members: vec![
+            json::text("status", "interrupted"),
+            json::number("asked", asked),
+            json::number("candidates", grid),
+            json::text("message", &message),
+        ],
+        messages: vec![message],
     }
 }
 
@@ -189,32 +220,4 @@ fn told(faults: &[Fault], name: &str) -> Vec<String> {
         .iter()
         .map(|fault| format!("{name}:{}: {}", fault.line, fault.what))
         .collect()
-}
-
-/// Why a file cannot be read.
-fn reason(error: &io::Error) -> String {
-    match error.kind() {
-        ErrorKind::NotFound => "no such file".to_string(),
-        ErrorKind::IsADirectory => "this is a folder".to_string(),
-        ErrorKind::PermissionDenied => "reading is not permitted".to_string(),
-        _ => error.to_string(),
-    }
-}
-
-/// The bytes of a file; `-` is standard input.
-fn contents(file: &OsStr) -> io::Result<Vec<u8>> {
-    if file == "-" {
-        bounded(io::stdin().lock())
-    } else {
-        bounded(File::open(file)?)
-    }
-}
-
-fn bounded(source: impl Read) -> io::Result<Vec<u8>> {
-    let mut bytes = Vec::new();
-    source.take(LONGEST_FILE + 1).read_to_end(&mut bytes)?;
-    if bytes.len() as u64 > LONGEST_FILE {
-        return Err(io::Error::other("longer than 1 MiB"));
-    }
-    Ok(bytes)
 }

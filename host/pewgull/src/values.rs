@@ -103,6 +103,23 @@ pub fn listed(words: &[String]) -> String {
     }
 }
 
+/// A number with commas between its thousands: `83,076`.
+pub fn grouped(number: u64) -> String {
+    match number / 1_000 {
+        0 => number.to_string(),
+        thousands => format!("{},{:03}", grouped(thousands), number % 1_000),
+    }
+}
+
+/// A word as it can be given to a shell.
+pub fn quoted(word: &str) -> String {
+    let plain = |c: char| c.is_ascii_alphanumeric() || "_-./+:,@%=".contains(c);
+    match !word.is_empty() && word.chars().all(plain) {
+        true => word.to_string(),
+        false => format!("'{}'", escaped(word).replace('\'', "'\\''")),
+    }
+}
+
 /// A sentence of a message in lines of 80 columns, each on a new line and
 /// indented by two.
 pub fn filled(sentence: &str) -> String {
@@ -298,6 +315,32 @@ mod tests {
         assert_eq!(listed(&words[1..]), "b and c");
         assert_eq!(listed(&words[2..]), "c");
         assert_eq!(listed(&[]), "");
+    }
+
+    #[test]
+    fn numbers_are_grouped() {
+        for (number, text) in [
+            (0, "0"),
+            (999, "999"),
+            (1_000, "1,000"),
+            (83_076, "83,076"),
+            (1_002_003, "1,002,003"),
+        ] {
+            assert_eq!(grouped(number), text);
+        }
+    }
+
+    #[test]
+    fn words_are_quoted() {
+        for (word, text) in [
+            ("a/b-1.plant", "a/b-1.plant"),
+            ("", "''"),
+            ("a b", "'a b'"),
+            ("it's", "'it'\\''s'"),
+            ("$x", "'$x'"),
+        ] {
+            assert_eq!(quoted(word), text);
+        }
     }
 
     #[test]

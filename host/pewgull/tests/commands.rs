@@ -553,9 +553,9 @@ fn several_files_have_headings_and_the_largest_status() {
 }
 
 #[rustfmt::skip]
-const USAGE_ERRORS: [(&str, &str); 20] = [
-    ("", "no command; expected choose, examine, explain, census, load, target, works or help"),
-    ("chose", "'chose' is no command; expected choose, examine, explain, census, load, target, works or help"),
+const USAGE_ERRORS: [(&str, &str); 33] = [
+    ("", "no command; expected choose, examine, explain, census, load, target, works, sweep or help"),
+    ("chose", "'chose' is no command; expected choose, examine, explain, census, load, target, works, sweep or help"),
     ("load --csv", "expected load [--csv] LOG..."),
     ("choose --csv F", "--csv is for the command load alone"),
     ("target --csv F 01-01", "--csv is for the command load alone"),
@@ -567,7 +567,20 @@ const USAGE_ERRORS: [(&str, &str); 20] = [
     ("census --json", "expected census FILE..."),
     ("works", "expected works FILE..."),
     ("works --csv F", "--csv is for the command load alone"),
-    ("choose --jsno F", "'--jsno' is no option; expected --json, --csv, --help or --version"),
+    ("choose --jsno F", "'--jsno' is no option; expected --json, --csv, --by, --state, --help or --version"),
+    ("sweep", "expected sweep FILE [--by N] [--state FILE], one file (words given: 0)"),
+    ("sweep F F", "expected sweep FILE [--by N] [--state FILE], one file (words given: 2)"),
+    ("sweep --csv F", "--csv is for the command load alone"),
+    ("choose --by 1000 F", "--by is for the command sweep alone"),
+    ("load --state a.state F", "--state is for the command sweep alone"),
+    ("sweep F --by 0", "--by: a sweep by 0 candidates never ends; expected a whole number, 1..1000"),
+    ("sweep F --by x", "--by: 'x' is not a whole number; expected a whole number, 1..1000"),
+    ("sweep F --by -1", "--by: '-1' is not a whole number; expected a whole number, 1..1000"),
+    ("sweep F --by 4294967296", "--by: '4294967296' is too large; expected a whole number, 1..1000"),
+    ("sweep F --by", "--by has no value; expected a whole number"),
+    ("sweep F --state --json", "--state has no value; expected a file"),
+    ("sweep F --state -", "--state: '-' cannot keep a state; expected a file"),
+    ("sweep F --by 1 --by 2", "--by was given already; expected it once"),
     ("examine F", "expected examine FILE F R H, one file and three numbers (words given: 1)"),
     ("explain F 300 75", "expected explain FILE F R H"),
     ("examine F 300 75 20 1", "expected examine FILE F R H"),

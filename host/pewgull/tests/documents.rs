@@ -6,6 +6,7 @@ use common::{pewgull, repository};
 use library::number;
 use library::sheet::{candidates, GRID, LINES};
 use library::{TankFlow, COUNTED, LEAST_DAYS, MOST_BOD, MOST_DAYS, MOST_FLOW, MOST_TERMS};
+use library::{ADVANCE_MOST, CHOOSE_LENGTH, STATE_LENGTH};
 use library::{LEAST_LINES, LEAST_SHARE, MOST_LINES, SUMS, WHOLE};
 use pewgull::arguments::COMMANDS;
 use pewgull::census::label;
@@ -13,6 +14,7 @@ use pewgull::keys::{
     shares_expected, Field, HEADS, KEYS, MOST_BULKING, MOST_DOSE_WITHOUT_SLUDGE, MOST_INDEX,
     SHARES_WORDS, TERM_TARGET, TERM_TEMPERATURE, TERM_WORDS,
 };
+use pewgull::run::INTERRUPTED;
 use pewgull::works::SPLIT;
 use std::fs;
 
@@ -210,7 +212,10 @@ fn commands() {
     for form in COMMANDS {
         let line = format!(" pewgull {:<7} [--json] {}", form.name, form.words());
         has(&readme, "README.md", &line);
-        has(&help, "help", &line);
+        let end = format!(" [--json] {}", form.words());
+        let mut usage = help.lines().filter_map(|line| line.strip_suffix(&end));
+        let named = |names: &str| names.rsplit([' ', '|']).any(|name| name == form.name);
+        assert!(usage.any(named), "help has no {}", form.name);
         has(
             &help,
             "help",
@@ -285,6 +290,42 @@ fn works() {
     has(&help, "help", &format!(" {} Each is ", SUMS.join(", ")));
     let first_line = SUMS.len() + 1 + LINES.len() + 1;
     shows_first("works examples/works-three-lines.plant", first_line);
+}
+
+/// The words of a sweep's state, an advance's limit, and what is said of both.
+#[test]
+fn sweep() {
+    let readme = plain(&document("README.md"));
+    let header = plain(&document("include/pewgull.h"));
+    let help = plain(&pewgull(&["help"]).out);
+    let (first, sides) = (CHOOSE_LENGTH / 4, GRID.map(|side| side.meaning));
+    let words = [&["number of candidates asked for so far"], &sides[..]].concat();
+    for (place, what) in words.iter().enumerate() {
+        let (word, byte) = (first + place, 4 * (first + place));
+        let row = format!(" {word} {byte}..{} {what}, ", byte + 3);
+        has(&header, "the header", &row);
+    }
+    let most = format!("more than {ADVANCE_MOST} candidates");
+    has(&header, "the header", &most);
+    has(
+        &header,
+        "the header",
+        &format!("fewer than {STATE_LENGTH} bytes"),
+    );
+    has(
+        &help,
+        "help",
+        &format!("1..{ADVANCE_MOST} (left out: {ADVANCE_MOST})"),
+    );
+    has(&readme, "README.md", &format!("1 to {ADVANCE_MOST}"));
+    for document in [&readme, &help] {
+        has(
+            document,
+            "README.md or help",
+            &format!("{STATE_LENGTH} bytes"),
+        );
+        has(document, "README.md or help", &format!("{INTERRUPTED} "));
+    }
 }
 
 /// The works short of BOD, without a dose and with one.
@@ -366,6 +407,8 @@ fn lengths() {
         ("TARGET_PAGE", library::TARGET_PAGE),
         ("WORKS_LENGTH", library::WORKS_LENGTH),
         ("LINE_LENGTH", library::LINE_LENGTH),
+        ("STATE_LENGTH", library::STATE_LENGTH),
+        ("ADVANCE_MOST", library::ADVANCE_MOST as usize),
         ("WORKS_PAGE", library::WORKS_PAGE),
     ] {
         has(

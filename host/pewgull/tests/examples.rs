@@ -1,9 +1,10 @@
 //! The files of examples/: each plant gets the answer that it shows, the two
-//! years have their wet fortnight, and the C program prints Case A.
+//! years have their wet fortnight, and the C programs print Case A and its
+//! choice.
 
 mod common;
 
-use common::{example, file, pewgull, ran, repository, CASE_A_LISTING};
+use common::{example, file, pewgull, ran, repository, Ran, CASE_A_LISTING};
 use std::fs;
 use std::path::Path;
 use std::process::Command;
@@ -217,15 +218,15 @@ fn two_years() {
     assert_eq!(plant.lines().find_map(value), Some(Some(load)));
 }
 
-#[test]
-fn c_program() {
+/// Compiles and runs an example in C.
+fn c_program(name: &str) -> Ran {
     let root = repository();
-    let program = Path::new(env!("CARGO_TARGET_TMPDIR")).join("case_a");
+    let program = Path::new(env!("CARGO_TARGET_TMPDIR")).join(name);
     let built = Command::new("gcc")
         .args(["-std=c99", "-Wall", "-Wextra", "-Wpedantic", "-Werror"])
         .arg("-I")
         .arg(root.join("include"))
-        .arg(root.join("examples/case_a.c"))
+        .arg(root.join(format!("examples/{name}.c")))
         .arg(root.join("host/lib/libinterface.a"))
         .arg("-o")
         .arg(&program)
@@ -236,6 +237,23 @@ fn c_program() {
         "{}",
         String::from_utf8_lossy(&built.stderr)
     );
-    let ran = ran(Command::new(&program).output().unwrap());
+    ran(Command::new(&program).output().unwrap())
+}
+
+#[test]
+fn case_a_in_c() {
+    let ran = c_program("case_a");
     assert_eq!((ran.status, ran.out.as_str()), (0, CASE_A_LISTING));
+}
+
+/// The sweep in C ends in what choosing gives, and says how far it is.
+#[test]
+fn a_sweep_in_c() {
+    let ran = c_program("sweep");
+    let choose = pewgull(&["choose", &example("case-a.plant")]);
+    assert_eq!((ran.status, ran.out), (0, choose.out));
+    assert_eq!(ran.err.lines().count(), 84, "{}", ran.err);
+    assert!(ran
+        .err
+        .starts_with("1000 of 83076 candidates, none permitted yet\n"));
 }

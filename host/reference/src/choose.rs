@@ -8,7 +8,7 @@ use crate::settling::cube_root;
 use crate::sheet::{Answer, Sheet};
 
 /// Cube roots for the thickening times 20 to 25.
-fn cube_roots() -> [u64; 6] {
+pub fn cube_roots() -> [u64; 6] {
     let mut roots = [0; 6];
     for (place, time) in (20..=25).enumerate() {
         roots[place] = cube_root(time);
@@ -27,7 +27,7 @@ pub fn rank(sheet: &Sheet) -> (u64, u64, u64, u64) {
 }
 
 /// The first of two permitted candidates, of which one may be missing.
-fn better(best: Option<Sheet>, next: Sheet) -> Option<Sheet> {
+pub fn better(best: Option<Sheet>, next: Sheet) -> Option<Sheet> {
     match best {
         Some(sheet) if rank(&sheet) <= rank(&next) => Some(sheet),
         _ => Some(next),

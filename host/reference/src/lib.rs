@@ -21,6 +21,7 @@ pub mod settling;
 pub mod sheet;
 pub mod sludge;
 pub mod stages;
+pub mod sweep;
 pub mod terms;
 pub mod works;
 
@@ -32,5 +33,6 @@ pub use plant::{Plant, Precipitant, PrimarySettling, Process, Removal, Steps, Ta
 pub use reading::{accept, Reading};
 pub use sheet::{Answer, Sheet};
 pub use stages::explain;
+pub use sweep::{Progress, Sweep};
 pub use terms::{target_in_force, Consent, Term};
 pub use works::{line, works, Split, Works};

@@ -18,3 +18,4 @@ pub const TERM_NITRIFICATION: u8 = 15;
 pub const TERM_NITRATE: u8 = 16;
 pub const BULKING: u8 = 17;
 pub const LINES: u8 = 18;
+pub const ADVANCE: u8 = 19;

@@ -30,6 +30,8 @@ mod ranges;
 mod readings;
 #[path = "cases/steps.rs"]
 mod steps;
+#[path = "cases/sweep.rs"]
+mod sweep;
 #[path = "cases/table.rs"]
 mod table;
 #[path = "cases/terms.rs"]

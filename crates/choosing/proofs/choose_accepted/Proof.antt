@@ -3,13 +3,13 @@
 use borrow.Author.Needs.{needs}
 use mathlib.Core.Path.{refl, sym, _∙_, ap, subst}
 use native.Mathlib.Omega.{arith}
-use lib.Dec.{T}
 use Rattle.rules.specs.Ranges.{OnGrid}
-use Rattle.rules.specs.Examining.{permitted}
 use Rattle.rules.specs.Choosing.{grid, ChosenAmong}
+use Rattle.rules.specs.Sweep.{BestAmong}
 use Rattle.rules.specs.declared.Candidate.{Candidate}
+use Rattle.rules.specs.declared.Best.{Best}
 use Rattle.rules.proofs.RangeFacts.{on-grid}
-use Rattle.rules.proofs.Examined.{permitted-keeps}
+use Rattle.rules.proofs.BestLaws.{best-designed}
 use Rattle.examining.specs.Stages.{judgeTank}
 use Rattle.examining.proofs.Verdicts.{permitted-by-tank}
 use Rattle.choosing.specs.Keys.{LeastKey, keyCandidate}
@@ -18,32 +18,43 @@ use Rattle.choosing.proofs.Turns.{limits}
 use Rattle.choosing.proofs.choose_accepted.Statement.{statement}
 use Rattle.choosing.proofs.choose_accepted.Tie as tie
 
+tanks-requires : tie.Need-tanks-requires
+tanks-requires c κs = let start = c .before .before in (start .pre .0, omega (arith, c .largest-return-ratio .ensures .1), c .before .bottoms .ensures)
+
+sweep-requires : tie.Need-sweep-requires
+sweep-requires c κs =
+    let seasons = c .before in
+    let filled = seasons .before in
+    let start = filled .before .before .before in
+    (start .pre .0, start .pre .1, seasons .seasons-of .ensures, rw (sym (filled .before .largest-return-ratio .ensures .0)) (filled .tanks .ensures))
+
 returns : tie.Need-returns
 returns c =
-    let first = c .before .before .before .before in
-    let plant = first .args .plant in
-    let concentrations = first .args .concentrations in (
+    let start = c .before .before .before .before .before .before .before in
+    let plant = start .args .plant in
+    let concentrations = start .args .concentrations in (
       refl,
-      no-design plant concentrations (limits plant concentrations (first .pre .0) (first .pre .1))
+      no-design plant concentrations (limits plant concentrations (start .pre .0) (start .pre .1)) (grid plant) (λ y g. g)
           (subst (LeastKey plant concentrations (grid plant)) (c .if1 .taken) (c .before .sweep .ensures)),
     )
 
--- the least key's candidate is permitted
-allowed :
-    (c : tie.After-key-candidate)
-    → T (permitted (c .before .before .before .before .before .args .plant) (c .before .before .before .before .before .args .concentrations) (c .key-candidate .result))
-allowed c =
-    let swept = c .before .before in
-    let first = swept .before .before .before in
-    let plant = first .args .plant in
-    let concentrations = first .args .concentrations in
-    subst (λ (y : Candidate). T (permitted plant concentrations y)) (sym (c .key-candidate .ensures))
-    (design plant concentrations (limits plant concentrations (first .pre .0) (first .pre .1)) (swept .sweep .result) (c .before .if1 .left) (swept .sweep .ensures) .0)
+-- the least key's candidate is the best of the grid
+best :
+    (c : tie.Else1)
+    → BestAmong (c .before .before .before .before .before .before .before .args .plant) (c .before .before .before .before .before .before .before .args .concentrations)
+    (grid (c .before .before .before .before .before .before .before .args .plant))
+    (Best.At (keyCandidate (c .before .sweep .result)))
+best c =
+    let start = c .before .before .before .before .before .before .before in
+    let plant = start .args .plant in
+    let concentrations = start .args .concentrations in
+    design plant concentrations (limits plant concentrations (start .pre .0) (start .pre .1)) (grid plant) (λ y g. g) (c .before .sweep .result) (c .if1 .left) (c .before .sweep .ensures)
 
 inside : (c : tie.After-key-candidate) → OnGrid (c .key-candidate .result)
 inside c =
-    let first = c .before .before .before .before .before in
-    on-grid (first .args .plant .tank) (c .key-candidate .result) (permitted-keeps (first .args .plant) (first .args .concentrations) (c .key-candidate .result) .0 (allowed c) .grid)
+    let start = c .before .before .before .before .before .before .before .before in
+    on-grid (start .args .plant .tank) (c .key-candidate .result)
+    (subst (λ (y : Candidate). grid (start .args .plant) y) (sym (c .key-candidate .ensures)) (best (c .before) .0))
 
 sub-bottom : tie.Need-sub-bottom
 sub-bottom c = omega (arith, inside (c .before) .time)
@@ -53,32 +64,32 @@ array-read-bottom c = omega (arith, inside (c .before) .time)
 
 reactor-requires : tie.Need-reactor-requires
 reactor-requires c κs =
-    let first = c .before .before .before .before .before .before in
-    (first .pre .0, first .pre .1, inside (c .before) .fraction, c .before .before .before .before .seasons-of .ensures)
+    let seasons = c .before .before .before .before .before in
+    let start = seasons .before .before .before .before in
+    (start .pre .0, start .pre .1, inside (c .before) .fraction, seasons .seasons-of .ensures)
 
 judge-tank-requires : tie.Need-judge-tank-requires
 judge-tank-requires c κs =
     let named = c .before .before in
-    let settled = named .before .before .before .before in
-    let first = settled .before in (
-      (first .pre .0, first .pre .1, inside named, record { value = c .reactor .ensures .0; bounds = c .reactor .ensures .1 }),
+    let settled = named .before .before .before .before .before .before .before in
+    let start = settled .before in (
+      (start .pre .0, start .pre .1, inside named, record { value = c .reactor .ensures .0; bounds = c .reactor .ensures .1 }),
       settled .bottoms .ensures .holds (named .key-candidate .result .thickening) (inside named .time),
     )
 
 returns-2 : tie.Need-returns-2
 returns-2 c =
     let named = c .before .before .before in
-    let swept = named .before .before in
-    let first = swept .before .before .before in
-    let plant = first .args .plant in
-    let concentrations = first .args .concentrations in
-    let found =
-    design plant concentrations (limits plant concentrations (first .pre .0) (first .pre .1)) (swept .sweep .result) (named .before .if1 .left) (swept .sweep .ensures) in
+    let key = named .before .before in
+    let start = key .before .before .before .before .before .before in
+    let plant = start .args .plant in
+    let concentrations = start .args .concentrations in
+    let found = best (named .before) in
     subst (ChosenAmong plant concentrations (grid plant))
     (sym
     (c .judge-tank .ensures
-    ∙ (ap (judgeTank plant concentrations) (named .key-candidate .ensures) ∙ permitted-by-tank plant concentrations (keyCandidate (swept .sweep .result)) (found .0))))
-    (found .1)
+    ∙ (ap (judgeTank plant concentrations) (named .key-candidate .ensures) ∙ permitted-by-tank plant concentrations (keyCandidate (key .sweep .result)) (found .1))))
+    (best-designed plant concentrations (grid plant) (keyCandidate (key .sweep .result)) found)
 
 pub choose-accepted-spec : {M : Type 1} → statement M
 choose-accepted-spec =
@@ -86,7 +97,10 @@ choose-accepted-spec =
     (tie.spec
     (λ c κs. search needs)
     (λ c κs. search needs)
+    tanks-requires
     (λ c κs. search needs)
+    (λ c. search needs)
+    sweep-requires
     returns
     (λ c κs. search needs)
     sub-bottom

@@ -1,6 +1,6 @@
 -- `tanks` meets its contract. Invariants: the tanks of the thickening times passed, and in the present one of the return
 -- ratios passed, are in the table. The measures are what is left of the two ranges. Assumes nothing.
-use mathlib.Core.Path.{_≡_, refl, subst}
+use mathlib.Core.Path.{_≡_, refl, ap, _∙_, subst}
 use mathlib.Core.Logic.{⊎-elim}
 use Prim.Native.Nat.{ℕ, _+_, _-_}
 use borrow.Author.Needs.{needs}
@@ -9,6 +9,8 @@ use lib.ListN.{set}
 use Rattle.rules.specs.Limits.{leastRatio, leastTime, mostTime}
 use Rattle.rules.specs.Ranges.{Between}
 use Rattle.choosing.proofs.TableFilling.{FilledTo, turn, empty, entered, next-time, full}
+use Rattle.choosing.specs.Keys.{packedTank}
+use Rattle.choosing.proofs.Turns.{tank-most}
 use Rattle.choosing.proofs.tanks.Statement.{statement}
 use Rattle.choosing.proofs.tanks.Tie as tie
 
@@ -32,22 +34,31 @@ tank-entry-requires c κs =
     let time = c .before .before .before in
     ((time .before .pre .0, omega arith, omega arith), time .before .pre .2 .holds (time .time .h) (omega arith))
 
-array-set-from-table : tie.Need-array-set-from-table Inv-ratio μ-ratio Inv-time μ-time
-array-set-from-table c = c .tank-index .ensures .1
+packed-requires : tie.Need-packed-requires Inv-ratio μ-ratio Inv-time μ-time
+packed-requires c κs =
+    let head = c .before .before in
+    let start = head .before .before .before in
+    rw (c .tank-entry .ensures) (tank-most (start .args .plant) (start .pre .0) (head .ratio .r) (head .before .before .time .h) (omega arith) (omega arith))
+
+array-write-table : tie.Need-array-write-table Inv-ratio μ-ratio Inv-time μ-time
+array-write-table c = c .tank-index .ensures .1
 
 -- the present tank is in the table
 stored :
     (c : tie.After-tank-index Inv-ratio μ-ratio Inv-time μ-time) →
-    FilledTo (c .before .before .before .before .before .before .args .plant)
-    (c .before .before .before .before .before .before .args .last)
-    (turn (c .before .before .before .ratio .r + 1) (c .before .before .before .before .before .time .h))
-    (set (c .before .before .before .ratio .table) (c .tank-index .result) (c .before .tank-entry .result))
+    FilledTo (c .before .before .before .before .before .before .before .args .plant)
+    (c .before .before .before .before .before .before .before .args .last)
+    (turn (c .before .before .before .before .ratio .r + 1) (c .before .before .before .before .before .before .time .h))
+    (set (c .before .before .before .before .ratio .table) (c .tank-index .result) (c .before .packed .result))
 stored c =
-    let head = c .before .before .before in
+    let packed = c .before in
+    let head = packed .before .before .before in
     let start = head .before .before .before in
     rw (c .tank-index .ensures .0)
     (entered (start .args .plant) (start .args .last) (start .pre .1) (head .ratio .r) (head .before .before .time .h)
-    (head .ratio .table) (c .before .tank-entry .result) (omega arith) (omega arith) (c .before .tank-entry .ensures) (head .ratio .inv .1))
+    (head .ratio .table) (packed .packed .result) (omega arith) (omega arith)
+    (packed .packed .ensures ∙ ap packedTank (packed .before .tank-entry .ensures))
+    (head .ratio .inv .1))
 
 ratio-again : tie.Need-ratio-again Inv-ratio μ-ratio Inv-time μ-time
 ratio-again c = (omega arith, stored (c .before))
@@ -66,10 +77,10 @@ time-again c =
           let e : head .ratio .r ≡ last + 1 = omega (arith, w .0) in
           rw (w .1) (subst (λ (n : ℕ). FilledTo plant last (turn n h) (head .ratio .table)) e (head .ratio .inv .1)))
           (λ w.
-          let e : head .ratio .r ≡ last = omega (arith, w .0, w .3) in
-          rw (w .4)
-          (subst (λ (n : ℕ). FilledTo plant last (turn (n + 1) h) (set (head .ratio .table) (w .2 .result) (w .1 .result))) e
-          (stored (record { before = record { before = record { before = head; ratio-test = w .0 }; tank-entry = w .1 }; tank-index = w .2 }))))
+          let e : head .ratio .r ≡ last = omega (arith, w .0, w .4) in
+          rw (w .5)
+          (subst (λ (n : ℕ). FilledTo plant last (turn (n + 1) h) (set (head .ratio .table) (w .3 .result) (w .2 .result))) e
+          (stored (record { before = record { before = record { before = record { before = head; ratio-test = w .0 }; tank-entry = w .1 }; packed = w .2 }; tank-index = w .3 }))))
           (c .ratio-test .came)),
     )
 
@@ -95,9 +106,10 @@ tanks-spec =
     (λ c. omega arith)
     (λ c. search needs)
     tank-entry-requires
+    packed-requires
     (λ c κs. search needs)
     (λ c. search needs)
-    array-set-from-table
+    array-write-table
     (λ c. search needs)
     (λ c. search needs)
     ratio-again

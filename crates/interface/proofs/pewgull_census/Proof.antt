@@ -4,7 +4,7 @@ use borrow.Author.Needs.{needs}
 use mathlib.Core.Path.{_∙_}
 use Rattle.rules.proofs.CensusOutcomes.{census-number-most}
 use Rattle.interface.specs.Calls.{countsPut, censused}
-use Rattle.interface.proofs.Outcomes.{request-malformed, request-answered}
+use Rattle.putting.proofs.Outcomes.{request-malformed, request-answered}
 use Rattle.interface.proofs.pewgull_census.Statement.{statement}
 use Rattle.interface.proofs.pewgull_census.Tie as tie
 

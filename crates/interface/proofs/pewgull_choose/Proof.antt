@@ -1,8 +1,9 @@
 -- `pewgull_choose` meets its contract: the request is malformed, or the answer chosen for its data is put on the page.
 -- Assumes nothing.
 use borrow.Author.Needs.{needs}
-use Rattle.interface.proofs.Outcomes.{answering-malformed, answering-answered}
-use Rattle.interface.specs.Calls.{answered, ChosenFor}
+use Rattle.putting.proofs.Outcomes.{answering-malformed, answering-answered}
+use Rattle.putting.specs.Outcomes.{answered}
+use Rattle.interface.specs.Calls.{ChosenFor}
 use Rattle.interface.proofs.pewgull_choose.Statement.{statement}
 use Rattle.interface.proofs.pewgull_choose.Tie as tie
 

@@ -4,8 +4,9 @@ use mathlib.Core.Path.{_∙_, sym}
 use native.Mathlib.Omega.{arith}
 use Rattle.request.proofs.Lengths.{data-length}
 use Rattle.request.specs.Frames.{candidateWords}
-use Rattle.interface.specs.Calls.{answered, examinedAt, examined}
-use Rattle.interface.proofs.Outcomes.{request-malformed, request-answered}
+use Rattle.putting.specs.Outcomes.{answered}
+use Rattle.interface.specs.Calls.{examinedAt, examined}
+use Rattle.putting.proofs.Outcomes.{request-malformed, request-answered}
 use Rattle.interface.proofs.pewgull_examine.Statement.{statement}
 use Rattle.interface.proofs.pewgull_examine.Tie as tie
 

@@ -6,7 +6,7 @@ use native.Mathlib.Omega.{arith}
 use Rattle.request.proofs.Lengths.{data-length}
 use Rattle.request.specs.Frames.{candidateWords}
 use Rattle.interface.specs.Calls.{figured, explainedAt, explained}
-use Rattle.interface.proofs.Outcomes.{request-malformed, request-answered}
+use Rattle.putting.proofs.Outcomes.{request-malformed, request-answered}
 use Rattle.interface.proofs.pewgull_explain.Statement.{statement}
 use Rattle.interface.proofs.pewgull_explain.Tie as tie
 

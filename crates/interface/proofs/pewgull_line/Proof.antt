@@ -8,8 +8,9 @@ use Rattle.request.specs.Frames.{lineWords}
 use Rattle.request.specs.Layout.{askedSplit, askedLine}
 use Rattle.rules.specs.declared.Split.{Split}
 use Rattle.rules.specs.Lines.{LineAnswered}
-use Rattle.interface.specs.Calls.{answered, LineFor}
-use Rattle.interface.proofs.Outcomes.{answering-malformed, answering-answered}
+use Rattle.putting.specs.Outcomes.{answered}
+use Rattle.interface.specs.Calls.{LineFor}
+use Rattle.putting.proofs.Outcomes.{answering-malformed, answering-answered}
 use Rattle.interface.proofs.pewgull_line.Statement.{statement}
 use Rattle.interface.proofs.pewgull_line.Tie as tie
 

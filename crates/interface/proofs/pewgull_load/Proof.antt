@@ -3,7 +3,8 @@ use borrow.Author.Needs.{needs}
 use mathlib.Core.Path.{_∙_}
 use Rattle.rules.specs.DayLog.{loadFigures}
 use Rattle.words.specs.Bytes.{numberBytes}
-use Rattle.interface.specs.Calls.{putOn, loadPut, loaded}
+use Rattle.putting.specs.Outcomes.{putOn}
+use Rattle.interface.specs.Calls.{loadPut, loaded}
 use Rattle.interface.proofs.pewgull_load.Statement.{statement}
 use Rattle.interface.proofs.pewgull_load.Tie as tie
 

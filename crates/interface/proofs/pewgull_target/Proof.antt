@@ -2,7 +2,8 @@
 -- Assumes nothing.
 use borrow.Author.Needs.{needs}
 use mathlib.Core.Path.{sym, _∙_}
-use Rattle.interface.specs.Calls.{outcome, malformed, targetPut, targeted}
+use Rattle.putting.specs.Outcomes.{outcome, malformed}
+use Rattle.interface.specs.Calls.{targetPut, targeted}
 use Rattle.interface.proofs.pewgull_target.Statement.{statement}
 use Rattle.interface.proofs.pewgull_target.Tie as tie
 

@@ -9,7 +9,7 @@ use Rattle.rules.specs.declared.Split.{Split}
 use Rattle.rules.specs.Works.{WorksChosen}
 use Rattle.rules.proofs.WorksLaws.{works-size}
 use Rattle.interface.specs.Calls.{WorksFor, worksPut}
-use Rattle.interface.proofs.Outcomes.{answering-malformed, answering-answered}
+use Rattle.putting.proofs.Outcomes.{answering-malformed, answering-answered}
 use Rattle.interface.proofs.pewgull_works.Statement.{statement}
 use Rattle.interface.proofs.pewgull_works.Tie as tie
 

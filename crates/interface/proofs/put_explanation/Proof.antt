@@ -3,7 +3,7 @@ use borrow.Author.Needs.{needs}
 use mathlib.Core.Path.{_∙_}
 use Rattle.rules.specs.Explanations.{termFigures, explainedFigures}
 use Rattle.words.specs.Bytes.{numberBytes}
-use Rattle.interface.specs.Calls.{putOn}
+use Rattle.putting.specs.Outcomes.{putOn}
 use Rattle.interface.proofs.put_explanation.Statement.{statement}
 use Rattle.interface.proofs.put_explanation.Tie as tie
 

@@ -3,7 +3,7 @@ use borrow.Author.Needs.{needs}
 use mathlib.Core.Path.{_∙_}
 use mathlib.Core.List.{[], _∷_}
 use Rattle.words.specs.Bytes.{numberBytes}
-use Rattle.interface.specs.Calls.{putOn}
+use Rattle.putting.specs.Outcomes.{putOn}
 use Rattle.interface.proofs.put_target.Statement.{statement}
 use Rattle.interface.proofs.put_target.Tie as tie
 

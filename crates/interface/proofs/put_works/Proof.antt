@@ -5,7 +5,7 @@ use native.Mathlib.Omega.{arith}
 use Rattle.rules.specs.Works.{worksNumber}
 use Rattle.rules.proofs.RuleOrder.{verdict-number-most}
 use Rattle.words.specs.Bytes.{numberBytes}
-use Rattle.interface.specs.Calls.{putOn}
+use Rattle.putting.specs.Outcomes.{putOn}
 use Rattle.interface.proofs.put_works.Statement.{statement}
 use Rattle.interface.proofs.put_works.Tie as tie
 

@@ -25,7 +25,7 @@ number-again c =
     let put = c .before .before in
     let head = put .before .before .before .before in
     let numbers = head .before .before .before .args .numbers .now in
-    let left = number-stored numbers (head .number .page) _ (head .number .i) (omega arith) (put .put-eight .ensures) in
+    let left = number-stored numbers (head .number .page) _ (head .number .i) (omega arith) (put .put-low .ensures) in
     (omega arith, search needs, left ∙ head .number .inv .2)
 
 returns : tie.Need-returns Inv-number μ-number

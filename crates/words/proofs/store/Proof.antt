@@ -1,25 +1,15 @@
 -- `store` meets its contract. The invariant: the numbers that are left, over the list as it is, are all of them over the list as it
 -- was. The measure is how many are left. Assumes nothing.
 use mathlib.Core.Path.{_≡_, refl, _∙_}
-use mathlib.Core.List.{List}
-use Prim.Native.Nat.{ℕ, suc, _+_, _-_, _≤_, _<_}
+use Prim.Native.Nat.{_+_, _-_, _≤_}
 use borrow.Author.Needs.{needs}
 use native.Mathlib.Nat.{add-zero}
-use native.Mathlib.Numerals.{add-one}
 use native.Mathlib.Omega.{arith}
-use lib.ListN.{length, getD, set, drop, drop-of-length-le}
-use lib.Seq.{sets, drop-cons}
+use lib.ListN.{length, drop}
+use lib.Seq.{sets}
+use Rattle.words.proofs.Stores.{entry-stored, entries-stored}
 use Rattle.words.proofs.store.Statement.{statement}
 use Rattle.words.proofs.store.Tie as tie
-
--- one number more is stored, and at the end all of them
-next : (list numbers : List ℕ) (at i : ℕ) → i < length numbers → sets (set list (at + i) (getD numbers i 0)) (at + (i + 1)) (drop (i + 1) numbers) ≡ sets list (at + i) (drop i numbers)
-next list numbers at i below =
-    let step : at + (i + 1) ≡ suc (at + i) = omega arith in
-    rw (step, drop-cons numbers i 0 below, add-one i)
-
-all : (list whole numbers : List ℕ) (at i : ℕ) → length numbers ≤ i → sets list (at + i) (drop i numbers) ≡ whole → list ≡ whole
-all list whole numbers at i end e = rw (drop-of-length-le numbers end) at e
 
 abbrev Inv-entry : tie.InvT-entry
 Inv-entry list₀ at numbers i₀ i-end list i =
@@ -34,14 +24,14 @@ entry-again : tie.Need-entry-again Inv-entry μ-entry
 entry-again c =
     let head = c .before .before in
     let start = head .before in
-    let left = next (head .entry .list) (start .args .numbers .now) (start .args .at) (head .entry .i) (omega arith) in
+    let left = entry-stored (head .entry .list) (start .args .numbers .now) (start .args .at) (head .entry .i) (omega arith) in
     (omega arith, search needs, left ∙ head .entry .inv .2)
 
 returns : tie.Need-returns Inv-entry μ-entry
 returns c =
     let head = c .before in
     let start = head .before in
-    all (head .entry .list) _ (start .args .numbers .now) (start .args .at) (head .entry .i) (omega arith) (head .entry .inv .2)
+    entries-stored (head .entry .list) _ (start .args .numbers .now) (start .args .at) (head .entry .i) (omega arith) (head .entry .inv .2)
 
 pub store-spec : {M : Type 1} → statement M
 store-spec =

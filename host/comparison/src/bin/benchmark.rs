@@ -1,30 +1,45 @@
-//! Choices, censuses, examinations, two-week loads and works in lines per second
-//! of the library and of the reference, on the same plants and day logs; the time
-//! of a census beside that of a choice, of a choice with four terms beside one
-//! without, of one in the COD way beside one in the BOD way and of a works beside
-//! as many choices as it has lines; and the stack that a call takes.
+//! Choices, censuses, examinations, two-week loads, works in lines and whole
+//! sweeps per second of the library and of the reference, on the same plants and
+//! day logs; the time of a census beside that of a choice, of a choice with four
+//! terms beside one without, of one in the COD way beside one in the BOD way, of
+//! a works beside as many choices as it has lines, of an advance beside as many
+//! examinations and of a whole sweep beside a choice; and the stack that a call
+//! takes.
+
+#[path = "benchmark/sweeps.rs"]
+mod sweeps;
 
 use cases::model;
 use cases::plants;
 use cases::random::Random;
 use cases::request::*;
 use comparison::logs;
-use comparison::stack::{further_down, stack_of};
+use comparison::stack::{further_down, stack_of, stack_of_advance, stack_of_examination};
+use comparison::sweep_calls::grid_number;
 use comparison::targets;
 use comparison::works;
 use library::number::{NO_DESIGN, SHEET};
-use library::{PAGE_LENGTH as PAGE, WORKS_PAGE};
+use library::{ADVANCE_MOST, PAGE_LENGTH as PAGE, WORKS_PAGE};
 use std::hint::black_box;
 use std::time::{Duration, Instant};
 
 const ROUNDS: usize = 5;
 /// Least time of a measurement.
 const LEAST_TIME: Duration = Duration::from_millis(300);
-/// Calls of which the least time is taken, at each place on the stack.
-const ALTERNATIONS: usize = 100;
-/// Places on the stack, over more than a page of memory: a call that lies badly
-/// in its page takes up to half as long again.
-const PLACES: usize = 16;
+/// Calls of which the least time is taken, at each place on the stack, and
+/// places on the stack. A call that lies badly in its page of memory takes up to
+/// half as long again.
+struct Repeats {
+    alternations: usize,
+    places: usize,
+}
+
+/// Of calls that are done in some microseconds; the places go over more than a
+/// page of memory.
+const OFTEN: Repeats = Repeats {
+    alternations: 100,
+    places: 16,
+};
 
 fn chosen(request: &Request) -> u32 {
     library::choose(&request.choose_bytes(), &mut [0; PAGE]).0
@@ -163,9 +178,9 @@ type Timed<'a> = (fn(&[u8]) -> u32, &'a [u8]);
 
 /// The least times of two calls in turn: other work on the machine can only
 /// add to them.
-fn least_times(calls: [Timed; 2]) -> [Duration; 2] {
+fn least_times(calls: [Timed; 2], alternations: usize) -> [Duration; 2] {
     let mut least = [Duration::MAX; 2];
-    for _ in 0..ALTERNATIONS {
+    for _ in 0..alternations {
         for (least, (call, request)) in least.iter_mut().zip(calls) {
             let start = Instant::now();
             black_box(call(black_box(request)));
@@ -176,11 +191,11 @@ fn least_times(calls: [Timed; 2]) -> [Duration; 2] {
 }
 
 /// The times of all pairs of calls over all places on the stack.
-fn times<'a>(pairs: impl Iterator<Item = [Timed<'a>; 2]>) -> [Duration; 2] {
+fn times<'a>(pairs: impl Iterator<Item = [Timed<'a>; 2]>, repeats: &Repeats) -> [Duration; 2] {
     let mut all = [Duration::ZERO; 2];
     for pair in pairs {
-        for place in 0..PLACES {
-            let times = further_down(place, &mut || least_times(pair));
+        for place in 0..repeats.places {
+            let times = further_down(place, &mut || least_times(pair, repeats.alternations));
             for (all, time) in all.iter_mut().zip(times) {
                 *all += time;
             }
@@ -196,7 +211,7 @@ fn share([first, second]: [Duration; 2]) -> f64 {
 
 /// The time of the second of all pairs of calls in hundredths of the first.
 fn share_of_time<'a>(pairs: impl Iterator<Item = [Timed<'a>; 2]>) -> f64 {
-    share(times(pairs))
+    share(times(pairs, &OFTEN))
 }
 
 /// The time of a choice with four terms in hundredths of that without, over
@@ -284,10 +299,11 @@ fn choices_and_works(plants: &[Request], lines: u32, design: bool) -> [Duration;
         .filter(wanted)
         .map(|plant| [plant.choose_bytes(), plant.works_bytes(&split)])
         .collect();
-    times(pairs.iter().map(|[plant, works]| {
+    let pairs = pairs.iter().map(|[plant, works]| {
         let choice: Timed = (choice, &plant[..]);
         [choice, (works_of, &works[..])]
-    }))
+    });
+    times(pairs, &OFTEN)
 }
 
 /// The time of a works in hundredths of that of as many choices for the whole
@@ -306,7 +322,7 @@ fn works_beside_choices(plants: &[Request], lines: u32) -> f64 {
 
 /// The most stack that a call takes over all plants.
 fn stacks(plants: &[Request]) {
-    let mut most = [0; 8];
+    let mut most = [0; 11];
     let eight = works::equal(8);
     let log = &ten_years()[0];
     let winter = [11, 16, 3, 15, 8, 20_000];
@@ -316,6 +332,8 @@ fn stacks(plants: &[Request]) {
     let by_cod = by_cod(&four_terms);
     for plant in plants.iter().chain(&four_terms).chain(&by_cod) {
         let (examine, choose) = (plant.examine_bytes(), plant.choose_bytes());
+        let last = grid_number(plant) - ADVANCE_MOST;
+        let state = plant.state_bytes(last, NONE_YET);
         let taken = [
             stack_of(library::CHOOSE, &choose, &mut page),
             stack_of(library::EXAMINE, &examine, &mut page),
@@ -325,16 +343,78 @@ fn stacks(plants: &[Request]) {
             stack_of(library::TARGET, &target, &mut page),
             stack_of(library::WORKS, &plant.works_bytes(&eight), &mut page),
             stack_of(library::LINE, &plant.line_bytes(&eight, 8), &mut page),
+            stack_of(library::SWEEP_START, &choose, &mut page),
+            stack_of_advance(&state),
+            stack_of_examination(&state),
         ];
         assert_eq!(taken[0].0, chosen(plant));
         for (most, (_, bytes)) in most.iter_mut().zip(taken) {
             *most = bytes.max(*most);
         }
     }
-    let names = "choose examine explain census load target works line";
-    let each = names.split(' ').zip(most);
+    let names = "choose, examine, explain, census, load, target, works, line, \
+                 start of a sweep, advance, examine in a sweep";
+    let each = names.split(", ").zip(most);
     let listed: Vec<String> = each.map(|(name, most)| format!("{name} {most}")).collect();
     println!("stack, bytes: {}", listed.join(", "));
+}
+
+/// Rates of choosing, by what the plants have.
+fn all_choices(plants: &[Request]) {
+    let with_design = |plant: &Request| chosen(plant) == SHEET;
+    let four_terms = with_four_terms(plants);
+    let cod_plants = by_cod(plants);
+    choices("choose, all", plants, |_| true);
+    choices("choose, all with a dose", &dosed(plants), |_| true);
+    choices("choose, all with four terms", &four_terms, |_| true);
+    choices("choose, horizontal flow", plants, |plant| {
+        plant.get(TANK_FLOW) == 0
+    });
+    choices("choose, vertical flow", plants, |plant| {
+        plant.get(TANK_FLOW) == 1
+    });
+    choices("choose, with a design", plants, with_design);
+    choices("choose, without a design", plants, |plant| {
+        !with_design(plant)
+    });
+    choices("choose, all by COD", &cod_plants, |_| true);
+    choices("choose, by COD, four terms", &by_cod(&four_terms), |_| true);
+    choices("choose, by COD, a design", &cod_plants, with_design);
+    choices("choose, by COD, no design", &cod_plants, |plant| {
+        !with_design(plant)
+    });
+}
+
+/// Times of one call beside another, and how long they may be.
+fn limits(plants: &[Request]) {
+    let with_design = |plant: &Request| chosen(plant) == SHEET;
+    census_beside_choice("with a design", plants, with_design);
+    census_beside_choice("without a design", plants, |plant| !with_design(plant));
+    cod_beside_bod(plants);
+    let share = census_beside_choice("all plants", plants, |_| true);
+    assert!(share <= 100.0, "a census is to be no slower than a choice");
+    let share = four_terms_beside_none(plants);
+    assert!(
+        share <= 250.0,
+        "a choice with four terms is to take at most 2.5 times that without"
+    );
+    for lines in LINES {
+        let share = works_beside_choices(plants, lines);
+        assert!(
+            share <= 100.0,
+            "a works is to be no slower than as many choices as it has lines"
+        );
+    }
+    let share = sweeps::advance_beside_examinations(plants);
+    assert!(
+        share <= 10.0,
+        "an advance is to take at most a tenth of as many examinations"
+    );
+    let choices = sweeps::sweep_beside_choice(plants);
+    assert!(
+        choices <= 150.0,
+        "a whole sweep is to take at most the time of 150 choices"
+    );
 }
 
 fn main() {
@@ -346,51 +426,15 @@ fn main() {
         "{title:<28}{:>14}{:>14}{:>9}",
         "library", "reference", "ratio"
     );
-    let with_design = |plant: &Request| chosen(plant) == SHEET;
-    choices("choose, all", &plants, |_| true);
-    choices("choose, all with a dose", &dosed(&plants), |_| true);
-    let four_terms = with_four_terms(&plants);
-    choices("choose, all with four terms", &four_terms, |_| true);
-    choices("choose, horizontal flow", &plants, |plant| {
-        plant.get(TANK_FLOW) == 0
-    });
-    choices("choose, vertical flow", &plants, |plant| {
-        plant.get(TANK_FLOW) == 1
-    });
-    choices("choose, with a design", &plants, with_design);
-    choices("choose, without a design", &plants, |plant| {
-        !with_design(plant)
-    });
-    let cod_plants = by_cod(&plants);
-    choices("choose, all by COD", &cod_plants, |_| true);
-    choices("choose, by COD, four terms", &by_cod(&four_terms), |_| true);
-    choices("choose, by COD, a design", &cod_plants, with_design);
-    choices("choose, by COD, no design", &cod_plants, |plant| {
-        !with_design(plant)
-    });
+    all_choices(&plants);
     censuses(&plants);
     examinations("examine", &plants);
-    examinations("examine, by COD", &cod_plants);
+    examinations("examine, by COD", &by_cod(&plants));
     loads();
     for lines in LINES {
         works_rates(&plants, lines);
     }
+    sweeps::rates_of_sweeps(&plants);
     stacks(&plants);
-    census_beside_choice("with a design", &plants, with_design);
-    census_beside_choice("without a design", &plants, |plant| !with_design(plant));
-    cod_beside_bod(&plants);
-    let share = census_beside_choice("all plants", &plants, |_| true);
-    assert!(share <= 100.0, "a census is to be no slower than a choice");
-    let share = four_terms_beside_none(&plants);
-    assert!(
-        share <= 250.0,
-        "a choice with four terms is to take at most 2.5 times that without"
-    );
-    for lines in LINES {
-        let share = works_beside_choices(&plants, lines);
-        assert!(
-            share <= 100.0,
-            "a works is to be no slower than as many choices as it has lines"
-        );
-    }
+    limits(&plants);
 }
