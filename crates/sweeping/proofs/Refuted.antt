@@ -7,7 +7,7 @@ use native.Mathlib.Omega.{arith}
 use lib.Dec.{T, ltb}
 use borrow.Author.Tests.{lt-ltb, le-ltb}
 use Rattle.rules.specs.Rules.{allKept}
-use Rattle.rules.specs.Accepting.{valuesOf, dataRules}
+use Rattle.rules.specs.Accepting.{valuesOf, dataRules, accept}
 use Rattle.rules.specs.Examining.{permitted}
 use Rattle.rules.specs.Choosing.{candidateTotal}
 use Rattle.rules.specs.Census.{gridSize}
@@ -17,6 +17,7 @@ use Rattle.rules.specs.declared.TankFlow.{TankFlow}
 use Rattle.rules.specs.declared.Readings.{Readings}
 use Rattle.rules.specs.declared.Candidate.{Candidate}
 use Rattle.rules.specs.declared.Refusal.{Refusal}
+use Rattle.rules.specs.declared.Acceptance.{Acceptance}
 use Rattle.rules.specs.declared.Answer.{Answer}
 use Rattle.rules.specs.declared.Best.{Best}
 use Rattle.rules.specs.declared.Progress.{Progress}
@@ -24,8 +25,9 @@ use Rattle.rules.proofs.RangeFacts.{grid-ranges}
 use Rattle.rules.proofs.SweepOrder.{order-below}
 use Rattle.rules.proofs.BestLaws.{best-once}
 use Rattle.sweeping.specs.declared.Sweep.{Sweep}
+use Rattle.sweeping.specs.declared.Started.{Started}
 use Rattle.sweeping.specs.declared.Advanced.{Advanced}
-use Rattle.sweeping.specs.Sweeps.{goesOn, OwnCandidates, progressOf, Moves, stays, AdvancedFrom, SweepCall, SweepResponse, Takes}
+use Rattle.sweeping.specs.Sweeps.{started, startBy, goesOn, OwnCandidates, progressOf, Moves, stays, AdvancedFrom, SweepCall, SweepResponse, Takes}
 use Rattle.sweeping.proofs.Lists.{sweepAt, at-start, reached-goes-on, many-refused}
 
 -- the variants of an answer are apart
@@ -130,6 +132,15 @@ module _ (s : Sweep) (n : ℕ) (a : Advanced) (e : goesOn s n ≡ true) (h : Adv
   tie-not-later d y best own t same less =
       omega (arith, less, subst (BestAmong (s .plant) (valuesOf (s .plant) (s .readings)) (OwnCandidates s n)) best (moves .best) .2 y own t .fraction same)
 
+-- ---- a start
+
+usual : (p : Plant) (r : Readings) (n : Refusal) → accept p r ≡ Acceptance.Refused n → started p r ≡ Started.Refused n
+unfolding started startBy
+usual p r n e = rw e
+
+no-sweep : (n : Refusal) (s : Sweep) → Started.Refused n ≡ Started.Sweep s → ⊥
+no-sweep n s e = let z : _≡_ {A = ℕ} 0 1 = cc in omega arith
+
 -- ---- the order, and calls after a start
 
 pub record WrongSweeps : Type 0 where
@@ -138,6 +149,9 @@ pub record WrongSweeps : Type 0 where
   pub next-ratio : candidateAt TankFlow.Horizontal 6 ≡ record { fraction = 200; «return_ratio» = 31; thickening = 20 }
   pub next-fraction : candidateAt TankFlow.Horizontal 276 ≡ record { fraction = 201; «return_ratio» = 30; thickening = 20 }
   pub last-place : candidateAt TankFlow.Vertical 128_225 ≡ record { fraction = 500; «return_ratio» = 100; thickening = 25 }
+  -- a start on refused data that begins a sweep, or that answers 19 or any number but theirs
+  pub started-on-refused : (p : Plant) (r : Readings) (n : Refusal) (s : Sweep) → accept p r ≡ Acceptance.Refused n → started p r ≡ Started.Sweep s → ⊥
+  pub usual-number : (p : Plant) (r : Readings) (n : Refusal) → accept p r ≡ Acceptance.Refused n → started p r ≡ Started.Refused n
   -- 1,000 refused after a start
   pub thousand-not-refused :
       (p : Plant) (r : Readings) → T (allKept (dataRules p r)) → (a : Advanced) → AdvancedFrom (sweepAt p r 0 Best.NoneYet) 1_000 a → a .progress ≡ Progress.Refused Refusal.Advance → ⊥
@@ -172,6 +186,8 @@ wrong-sweeps =
       next-ratio = refl;
       next-fraction = refl;
       last-place = refl;
+      started-on-refused = λ p r n s e h. no-sweep n s (sym (usual p r n e) ∙ h);
+      usual-number = λ p r n e. usual p r n e;
       thousand-not-refused = λ p r kept a h f. thousand p r kept a h f;
       refused-not-counted = λ p r m b kept a h. advance-stays (sweepAt p r m b) 1_001 a (many-refused p r kept m 1_001 b refl) h;
       too-often = λ s n a e h. not-too-often s n a e h;
