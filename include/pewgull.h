@@ -1,6 +1,6 @@
 /*
  * Pewgull: dimensioning of single-stage activated sludge plants with nitrogen
- * removal. Eleven calls, for x86-64 and its C calling convention (System V).
+ * removal. Twelve calls, for x86-64 and its C calling convention (System V).
  *
  * Each call takes the bytes of a request, of a day log or of a sweep's state,
  * writes on a page that the caller lends, stores the number of bytes written
@@ -11,8 +11,8 @@
  * that go on with one sweep take turns, or a copy of its state each. A choice
  * takes 9 kB of stack, a works 14 kB, a line of a works and an advance of a
  * sweep 10 kB; examining, also in a sweep, explaining, a census, a load, a
- * target and the start of a sweep take 3 kB. The archive needs memcpy and
- * memset, and nothing more.
+ * target, existing tanks and the start of a sweep take 3 kB. The archive needs
+ * memcpy and memset, and nothing more.
  *
  * What the caller sees to
  *   - request points to request_length readable bytes, log to log_length,
@@ -62,8 +62,9 @@
  *   55     220..223   way of sludge and oxygen: 0 bod, 1 cod
  *                     A request to choose, for a census or to start a sweep
  *                     ends here; one for a works or for a line goes on in
- *                     words of its own (see pewgull_works), and so does the
- *                     state of a sweep (see pewgull_sweep_start).
+ *                     words of its own (see pewgull_works), and so do one for
+ *                     existing tanks (see pewgull_built) and the state of a
+ *                     sweep (see pewgull_sweep_start).
  *   56     224..227   fraction, 200..500 thousandths
  *   57     228..231   return ratio, 30..75 (vertical flow 30..100) hundredths
  *   58     232..235   thickening time, 20..25 tenths of an hour
@@ -129,6 +130,7 @@ extern "C" {
 #define PEWGULL_TARGET_LENGTH 112
 #define PEWGULL_WORKS_LENGTH 260
 #define PEWGULL_LINE_LENGTH 264
+#define PEWGULL_BUILT_LENGTH 252
 
 /* Length of a sweep's state, in bytes. */
 #define PEWGULL_STATE_LENGTH 240
@@ -154,14 +156,17 @@ extern "C" {
 /* Bytes that pewgull_works writes, and the least length of its page. */
 #define PEWGULL_WORKS_PAGE 1024
 
+/* Bytes that pewgull_built writes, and the least length of its page. */
+#define PEWGULL_BUILT_PAGE 8
+
 /* Numbers that the calls give. */
-#define PEWGULL_SHEET 0          /* a sheet, figures, counts, a load, a target, a works or a sweep */
+#define PEWGULL_SHEET 0          /* a sheet, figures, counts, a load, a target, a works, an index or a sweep */
 #define PEWGULL_PLANT_DATA 1     /* a plant or site figure outside its range, or a line's 0 */
 #define PEWGULL_NO_NUMBER 2      /* a reading not finite, or below zero */
 #define PEWGULL_READING_RANGE 3  /* a head count or a result outside its range */
 #define PEWGULL_COD_RATIO 4      /* 5 COD > 11 BOD, where the way is bod */
 #define PEWGULL_NO_DESIGN 5      /* no candidate of the grid is permitted */
-#define PEWGULL_OFF_GRID 6       /* the candidate is not on the grid */
+#define PEWGULL_OFF_GRID 6       /* the candidate, or what existing tanks are run at, is not on the grid */
 #define PEWGULL_NITRATE 7        /* the nitrate is not covered */
 #define PEWGULL_SOLIDS 8         /* solids too low, or diluted sludge volume too large */
 #define PEWGULL_SURFACE 9        /* settling surface above the site's */
@@ -175,6 +180,8 @@ extern "C" {
 #define PEWGULL_BULKING 17       /* bulking sludge: a sludge volume index of 181..200 l/kg */
 #define PEWGULL_LINES 18         /* number of lines or shares wrong, or no such line */
 #define PEWGULL_ADVANCE 19       /* an advance by too many candidates, or from a state that is not valid */
+#define PEWGULL_SPAN 20          /* a span of sludge volume indices that is empty or not within 50..180 */
+#define PEWGULL_BUILT_SIZE 21    /* a built size of 0 */
 #define PEWGULL_UNFINISHED 100   /* no refusal: the sweep has candidates left */
 #define PEWGULL_BAD_LENGTH 101   /* request or state of another length: nothing written */
 #define PEWGULL_BAD_VERSION 102  /* request or state of another version, which is tested first: nothing written */
@@ -390,6 +397,46 @@ uint32_t pewgull_works(const uint8_t *request, size_t request_length,
 uint32_t pewgull_line(const uint8_t *request, size_t request_length,
                       uint8_t *page, size_t page_length,
                       uint64_t *written);
+
+/*
+ * Asks whether the tanks of an existing works hold every sludge volume index
+ * of a span: an owner who fears bulking learns which index is too much. The
+ * request has PEWGULL_BUILT_LENGTH bytes:
+ *
+ *   word   bytes      what
+ *   0..55  0..223     the data, as for a choice; their sludge volume index is
+ *                     checked and not used further
+ *   56     224..227   reactor volume as built, m3, at least 1
+ *   57     228..231   settling surface as built, m2, at least 1
+ *   58     232..235   settling depth as built, mm, at least 1
+ *   59     236..239   fraction, 200..500 thousandths
+ *   60     240..243   thickening time, 20..25 tenths of an hour
+ *   61     244..247   least sludge volume index of the span, 50..180 l/kg
+ *   62     248..251   largest one, 50..180 l/kg, at least the least
+ *
+ * An index is held where, for these data with that index, pewgull_examine
+ * gives a sheet for some return ratio of the grid whose reactor, surface and
+ * depth are at most those as built. Every return ratio is tried. Else the index
+ * is lost. Gives 0 and writes PEWGULL_BUILT_PAGE bytes, a 64-bit unsigned
+ * number, little-endian: 0 where every index of the span is held, else the
+ * smallest of the span that is lost.
+ *
+ * Each index stands for itself, and may have a return ratio of its own. Where
+ * one is lost, all smaller ones of the span are held; of the larger ones
+ * nothing is said, and some may be held. To learn of them ask again, with a
+ * span that starts after it (examples/built.c). The limits of the site, words
+ * 12 and 13, are held to as ever: an existing works has its own surface and
+ * depth there, or larger ones.
+ *
+ * Gives 20 where the span is empty or not within 50..180, before anything else
+ * is looked at; else 21 where a built size is 0; else 1, 17, 2 to 4 or 14 where
+ * the data get it; else 6 where the fraction or the thickening time is not on
+ * the grid. Then it writes 8 bytes of zeros. Gives 11 for a page of fewer than
+ * 8 bytes, or 101 to 103, and writes nothing.
+ */
+uint32_t pewgull_built(const uint8_t *request, size_t request_length,
+                       uint8_t *page, size_t page_length,
+                       uint64_t *written);
 
 /*
  * Starts a sweep for a request of PEWGULL_CHOOSE_LENGTH bytes: a choice that

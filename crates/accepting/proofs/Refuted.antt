@@ -16,7 +16,7 @@ use Rattle.rules.specs.Accepting
 use Rattle.rules.specs.Consent.{consentValid}
 use Rattle.rules.specs.Accepting.{valuesOf, readingsRules, bulkingRule, termsRule, acceptBy, accept}
 use Rattle.rules.specs.Answers.{acceptanceNumber}
-use Rattle.rules.specs.Bulking.{withIndex}
+use Rattle.rules.specs.OtherSteps.{withIndex}
 use Rattle.rules.specs.Cases
 use Rattle.rules.specs.Cases.{variant, caseA, f32}
 use Rattle.rules.specs.declared.Plant.{Plant}

@@ -21,6 +21,7 @@ ghost use Rattle.rules.specs.Explanations.{explanationNumber, explanationFigure
 ghost use Rattle.rules.specs.DayLog.{loadNumber, loadOf};
 ghost use Rattle.putting.specs.Outcomes.{outcome};
 ghost use Rattle.resuming.specs.States.{startedOn, resumed, AdvancedOn, lookedOn};
+ghost use Rattle.standing.specs.Tanks.{BuiltOn};
 ghost use Rattle.interface.specs.Calls.{examined, Choosing, worksPut, WorksAsked, LineAsked, figured, explained, countsPut, censused, targetPut, targeted, loaded};
 
 // How many figures a works has: eight sums, and fifteen for each of eight lines.
@@ -381,4 +382,13 @@ pub extern "C" fn pewgull_sweep_examine(
         thickening,
     };
     resuming::examine(state, candidate, page, written)
+}
+
+// Whether the existing tanks of a request hold at each sludge volume index of a span: 0 on the page, or the smallest index lost. A
+// malformed request is answered by 101 to 103, and nothing is written.
+#[no_mangle]
+pub extern "C" fn pewgull_built(request: &[u8], page: &mut [u8], written: &mut u64) -> u32
+    ensures { λ r. ⌜ BuiltOn (now (request .entry)) (now (page .entry)) (outcome r (now (page .exit)) (now (written .exit))) ⌝ }
+{
+    standing::built(request, page, written)
 }

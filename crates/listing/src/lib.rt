@@ -36,6 +36,8 @@ pub fn refusal_number(refusal: Refusal) -> u64
         Refusal::Bulking => 17,
         Refusal::Lines => 18,
         Refusal::Advance => 19,
+        Refusal::Span => 20,
+        Refusal::BuiltSize => 21,
     }
 }
 

@@ -48,3 +48,7 @@ pub use Rattle.census.proofs.Refuted.{earlier-rule-ignored, tank-before-fractio
 -- a two-week load with the last of equal windows, a window of 13 days, the arrays taken as pairs, the last day left out, day 0,
 -- 13 before 12, or a length that wraps
 pub use Rattle.loads.proofs.Refuted.{last-of-equal, window-of-13, arrays-as-pairs, last-day-left-out, day-0, value-before-length, wrapping-length}
+-- existing tanks: only the ends of the span, one return ratio for all of it, the largest index lost, the built surface compared with the
+-- site's, the plant's own index, a size, the site or the cover left out, and refusals in another order: fields of one record; and that
+-- winning is not monotone in the index
+pub use Rattle.existing.proofs.Refuted.{WrongTanks, wrong-tanks, not-monotone, each-by-its-own}

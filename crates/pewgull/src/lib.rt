@@ -1,11 +1,14 @@
 // The calls that a host makes: each answers any arguments, and its contract equates its whole outcome with document 01;
 // once more, as `numbered`, it says what the number, the sheet, the figures and the count are.
 use rules::Answer;
+use rules::BuiltAnswer;
 use rules::Candidate;
 use rules::Census;
 use rules::Consent;
 use rules::Date;
+use rules::Existing;
 use rules::Explanation;
+use rules::IndexSpan;
 use rules::LoadAnswer;
 use rules::Plant;
 use rules::Readings;
@@ -17,7 +20,7 @@ ghost use mathlib.Core.Path.{_≡_};
 ghost use Rattle.rules.specs.Examining.{examine};
 ghost use Rattle.rules.specs.Choosing.{Chosen};
 ghost use Rattle.rules.specs.Explaining.{explain};
-ghost use Rattle.rules.specs.Answers.{answerNumber, answerSheet, targetNumber, targetValue, writtenNumber, writtenCount};
+ghost use Rattle.rules.specs.Answers.{answerNumber, answerSheet, targetNumber, targetValue, writtenNumber, writtenCount, builtNumber, builtIndex};
 ghost use Rattle.rules.specs.Explanations.{explanationNumber, explanationFigures};
 ghost use Rattle.rules.specs.Consent.{targetOn};
 ghost use Rattle.rules.specs.TargetOutcome.{TargetOutcome};
@@ -29,6 +32,8 @@ ghost use Rattle.rules.specs.TwoColumns.{TwoColumns};
 ghost use Rattle.rules.specs.Lines.{LineAnswered};
 ghost use Rattle.rules.specs.Works.{WorksChosen, worksNumber};
 ghost use Rattle.rules.specs.WorksOutcome.{WorksOutcome, LineOutcome, WorksColumns, LineColumns};
+ghost use Rattle.rules.specs.Existing.{BuiltAnswered};
+ghost use Rattle.rules.specs.ExistingOutcome.{BuiltOutcome};
 ghost use Rattle.listing.specs.Pages.{Writes};
 
 // Demands 1 and 2: the complete sheet of a candidate, or the one refusal that is due.
@@ -82,6 +87,15 @@ pub fn census(plant: Plant, readings: Readings) -> Census
     ensures numbered { λ r. ⌜ CensusOutcome plant readings (r .number) (r .counts) ⌝ }
 {
     census::census(plant, readings)
+}
+
+// Existing tanks against a moody sludge: whether each sludge volume index of a span can be won by some return ratio, or the smallest that
+// cannot.
+pub fn built(plant: Plant, readings: Readings, existing: Existing, span: IndexSpan) -> BuiltAnswer
+    ensures { λ r. ⌜ BuiltAnswered plant readings existing span r ⌝ }
+    ensures numbered { λ r. ⌜ BuiltOutcome plant readings existing span (builtNumber r) (builtIndex r) ⌝ }
+{
+    existing::built(plant, readings, existing, span)
 }
 
 // The lowest nitrate target in force on a day, for any terms of a consent and any date, or that no term runs.

@@ -36,6 +36,7 @@ pub mod WorksOutcomes
 pub mod LineOutcomes
 pub mod SweepOrder
 pub mod BestLaws
+pub mod ExistingLaws
 pub mod ByBod
 pub mod ByCod
 pub mod Numeral

@@ -68,6 +68,8 @@ small n =
       | Refusal.Bulking ↦ tt
       | Refusal.Lines ↦ tt
       | Refusal.Advance ↦ tt
+      | Refusal.Span ↦ tt
+      | Refusal.BuiltSize ↦ tt
     ]
 
 pub refusal-number-between : (n : Refusal) → Between 1 31 (refusalNumber n)

@@ -9,6 +9,7 @@ use Rattle.rules.specs.declared.Answer.{Answer}
 use Rattle.rules.specs.declared.Written.{Written}
 use Rattle.rules.specs.declared.TargetAnswer.{TargetAnswer}
 use Rattle.rules.specs.declared.Progress.{Progress}
+use Rattle.rules.specs.declared.BuiltAnswer.{BuiltAnswer}
 
 -- the paper's number of each refusal
 abbrev pub refusalNumber : Refusal → ℕ
@@ -31,6 +32,8 @@ refusalNumber Refusal.TermNitrate = 16
 refusalNumber Refusal.Bulking = 17
 refusalNumber Refusal.Lines = 18
 refusalNumber Refusal.Advance = 19
+refusalNumber Refusal.Span = 20
+refusalNumber Refusal.BuiltSize = 21
 
 -- a sheet of zeros
 unfoldable pub emptySheet : Sheet
@@ -126,3 +129,15 @@ unfoldable pub progressSheet : Progress → Sheet
 progressSheet (Progress.Refused n) = emptySheet
 progressSheet (Progress.Unfinished b) = emptySheet
 progressSheet (Progress.Finished a) = answerSheet a
+
+-- the number and the index of an answer on existing tanks: 0 and 0 where they hold, 0 and the smallest index lost, or the refusal's
+-- number and 0
+unfoldable pub builtNumber : BuiltAnswer → ℕ
+builtNumber BuiltAnswer.Held = 0
+builtNumber (BuiltAnswer.Lost index) = 0
+builtNumber (BuiltAnswer.Refused n) = refusalNumber n
+
+unfoldable pub builtIndex : BuiltAnswer → ℕ
+builtIndex BuiltAnswer.Held = 0
+builtIndex (BuiltAnswer.Lost index) = index
+builtIndex (BuiltAnswer.Refused n) = 0

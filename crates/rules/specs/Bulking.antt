@@ -3,7 +3,6 @@
 use mathlib.Core.Logic.{_↔_}
 use mathlib.Core.Path.{_≡_}
 use mathlib.Core.List.{List, [], _∷_, _++_}
-use Prim.Native.Nat.{ℕ}
 use Rattle.rules.specs.Rules.{Rule, rule}
 use Rattle.rules.specs.Sums.{valuesFrom}
 use Rattle.rules.specs.PlantData.{plantInRange}
@@ -12,7 +11,7 @@ use Rattle.rules.specs.Examining.{candidateRules, sheetOf, examine}
 use Rattle.rules.specs.Choosing.{Chosen}
 use Rattle.rules.specs.Explaining.{explainAccepted, explain}
 use Rattle.rules.specs.Census.{answerNumbers, censusAccepted, census}
-use Rattle.rules.specs.OtherSteps.{alteredPlant, Calculation, acceptWith, SameAnswers}
+use Rattle.rules.specs.OtherSteps.{Calculation, acceptWith, SameAnswers}
 use Rattle.rules.specs.declared.Plant.{Plant}
 use Rattle.rules.specs.declared.Readings.{Readings}
 use Rattle.rules.specs.declared.Candidate.{Candidate}
@@ -20,10 +19,6 @@ use Rattle.rules.specs.declared.Refusal.{Refusal}
 use Rattle.rules.specs.declared.Acceptance.{Acceptance}
 use Rattle.rules.specs.declared.Answer.{Answer}
 use Rattle.rules.specs.declared.Explanation.{Explanation}
-
--- a plant with another sludge volume index
-unfoldable pub withIndex : ℕ → Plant → Plant
-withIndex index p = alteredPlant (p .flow) (p .«wet_weather_flow») (p .«site_surface») index (p .dose) (p .consent) (p .way) p
 
 -- 1; then 2 and 3 of each reading in turn; then 4; then 14
 unfoldable pub dataRulesWithoutBulking : Plant → Readings → List Rule

@@ -1,9 +1,10 @@
 -- Document 01 as definitions over the whole numbers, in its order: the roundings; plant data and site; lab readings, with
 -- the rules 1 to 4; sludge age and nitrate; sludge and tanks; aeration and recirculation; examining, with the rules 6 to
 -- 10, and numbered answers; choosing; the listing; the worked cases. From document 02 the dose, the terms of the consent
--- with the rules 14 to 16, bulking sludge with rule 17, and sludge and oxygen from COD. Beside them: the ranges as facts, the two nitrate columns, what
--- explains a candidate, the census of the grid, the day log with its highest two-week load, and the steps without a dose, without
--- terms, without bulking sludge, without pauses in aeration and without a way.
+-- with the rules 14 to 16, bulking sludge with rule 17, sludge and oxygen from COD, works in lines with rule 18, a sweep's order,
+-- existing tanks with the rules 20 and 21. Beside them: the ranges as facts, the two nitrate columns, what explains a candidate, the
+-- census of the grid, the day log with its highest two-week load, and the steps without a dose, without terms, without bulking sludge,
+-- without pauses in aeration and without a way.
 pub mod Rounding
 pub mod Limits
 pub mod Sums
@@ -39,6 +40,8 @@ pub mod Lines
 pub mod Works
 pub mod WorksOutcome
 pub mod Sweep
+pub mod Existing
+pub mod ExistingOutcome
 pub mod DayLog
 pub mod DayLogOutcome
 pub mod Listing

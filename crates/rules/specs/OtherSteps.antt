@@ -48,6 +48,10 @@ alteredPlant flow wet surface index dose consent way p =
       way = way;
     }
 
+-- a plant with another sludge volume index
+unfoldable pub withIndex : ℕ → Plant → Plant
+withIndex index p = alteredPlant (p .flow) (p .«wet_weather_flow») (p .«site_surface») index (p .dose) (p .consent) (p .way) p
+
 -- the rules for the data, the rules for a candidate, and the sheet
 pub record Calculation : Type 0 where
   pub forData : Plant → Readings → List Rule

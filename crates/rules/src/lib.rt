@@ -20,7 +20,9 @@ pub const MOST_TEMPERATURE: u32 = 20;
 
 pub const LEAST_TERM_TEMPERATURE: u32 = 4;
 
-// The largest sludge volume index of a sludge that does not bulk.
+// The sludge volume indices of a sludge that does not bulk.
+pub const LEAST_INDEX: u32 = 50;
+
 pub const MOST_INDEX: u32 = 180;
 
 pub const LEAST_NITRATE_TARGET: u32 = 1_000;
@@ -266,6 +268,8 @@ pub enum Refusal {
     Bulking,
     Lines,
     Advance,
+    Span,
+    BuiltSize,
 }
 
 // What a list of rules says: all of them are kept, or the refusal of the first that is broken.
@@ -400,6 +404,34 @@ pub enum Progress {
     Refused(Refusal),
     Unfinished(Best),
     Finished(Answer),
+}
+
+// What is built of a standing works, and the fraction and the thickening time that it is operated with.
+pub struct Existing {
+    // reactor volume, m3
+    pub reactor: u32,
+    // settling surface, m2
+    pub surface: u32,
+    // settling depth, mm
+    pub depth: u32,
+    // f, thousandths
+    pub fraction: u32,
+    // h, tenths of an hour
+    pub thickening: u32,
+}
+
+// The sludge volume indices from the least to the most, l/kg.
+pub struct IndexSpan {
+    pub least: u32,
+    pub most: u32,
+}
+
+// What existing tanks are answered with: they hold at every index of the span; the smallest index at which they are lost; or a
+// refusal.
+pub enum BuiltAnswer {
+    Held,
+    Lost(u32),
+    Refused(Refusal),
 }
 
 // A day of the day log.

@@ -2,6 +2,9 @@
 //! requests, what a call answers to them, and plants on the lines where two
 //! answers meet.
 
+pub mod built;
+pub mod built_lines;
+pub mod built_searches;
 pub mod cod_lines;
 pub mod collection;
 pub mod figures;

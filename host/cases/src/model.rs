@@ -1,7 +1,7 @@
 //! What each call of the interface answers, by the reference.
 
-use crate::request::{candidate, decode, decode_state, decode_target, decode_works, words_of};
-use crate::request::{CandidateWords, CHOOSE_LENGTH, EXAMINE_LENGTH, LINE_LENGTH};
+use crate::request::{candidate, decode, decode_built, decode_state, decode_target, decode_works};
+use crate::request::{words_of, CandidateWords, CHOOSE_LENGTH, EXAMINE_LENGTH, LINE_LENGTH};
 use crate::request::{STATE_LENGTH, WORKS_LENGTH};
 use reference::stages::{InTerm, Stages};
 use reference::{listing, Answer, Progress, Sheet, Sweep};
@@ -23,6 +23,9 @@ pub const LOAD_PAGE: usize = 16;
 pub const TARGET_PAGE: usize = 8;
 /// Bytes that a works writes: eight sums, and the sheets of eight lines.
 pub const WORKS_PAGE: usize = 8 * (8 + 8 * 15);
+
+/// Bytes that built tanks take.
+pub const BUILT_PAGE: usize = 8;
 
 /// The call's number and the bytes it writes at the start of the page.
 #[derive(Clone, Debug, PartialEq, Eq)]
@@ -189,6 +192,22 @@ pub fn line(request: &[u8], page_length: usize) -> Outcome {
             let answer = reference::line(&data.plant, &data.readings, &data.split, data.line);
             listed(&answer, page_length)
         }
+    }
+}
+
+/// The smallest index of the span that cannot be won, 0 where the tanks hold, or
+/// a refusal and 0.
+pub fn built(request: &[u8], page_length: usize) -> Outcome {
+    let data = match decode_built(request) {
+        Err(fault) => return nothing(fault),
+        Ok(data) => data,
+    };
+    if page_length < BUILT_PAGE {
+        return nothing(SHORT_PAGE);
+    }
+    match reference::built(&data.plant, &data.readings, &data.existing, &data.span) {
+        Err(number) => put(u32::from(number), &[0]),
+        Ok(lost) => put(0, &[lost.map_or(0, u64::from)]),
     }
 }
 

@@ -74,6 +74,19 @@ pub const ASKED: usize = DATA_WORDS;
 pub const BEST: usize = ASKED + 1;
 /// Words of a state.
 pub const STATE_WORDS: usize = BEST + CANDIDATE_WORDS;
+
+/// Built tanks, after the data: reactor volume, surface and depth that are built,
+/// fraction, thickening time, and both ends of the span.
+pub const BUILT_REACTOR: usize = DATA_WORDS;
+pub const BUILT_SURFACE: usize = BUILT_REACTOR + 1;
+pub const BUILT_DEPTH: usize = BUILT_REACTOR + 2;
+pub const BUILT_FRACTION: usize = BUILT_REACTOR + 3;
+pub const BUILT_THICKENING: usize = BUILT_REACTOR + 4;
+pub const LEAST_OF_SPAN: usize = BUILT_REACTOR + 5;
+pub const MOST_OF_SPAN: usize = BUILT_REACTOR + 6;
+/// Words of a request for built tanks.
+pub const BUILT_WORDS: usize = MOST_OF_SPAN + 1;
+
 /// A candidate as its words.
 pub type CandidateWords = [u32; CANDIDATE_WORDS];
 /// No candidate yet.
@@ -151,6 +164,8 @@ pub const WORKS_LENGTH: usize = 4 * LINE;
 pub const LINE_LENGTH: usize = 4 * (LINE + 1);
 /// Bytes of a sweep's state.
 pub const STATE_LENGTH: usize = 4 * STATE_WORDS;
+/// Bytes of a request for built tanks.
+pub const BUILT_LENGTH: usize = 4 * BUILT_WORDS;
 
 /// Words of a request for a target: version, consent, and the date asked for.
 pub const ASKED_MONTH: usize = 2 + MOST_TERMS * TERM_WORDS;
@@ -246,6 +261,22 @@ impl Request {
         let mut bytes = self.choose_bytes();
         bytes.extend(asked.to_le_bytes());
         bytes.extend(best.iter().flat_map(|word| word.to_le_bytes()));
+        bytes
+    }
+
+    /// The request for built tanks: the data, what stands, then the span.
+    pub fn built_bytes(&self, existing: &Existing, span: &Span) -> Vec<u8> {
+        let words = [
+            existing.reactor,
+            existing.surface,
+            existing.depth,
+            existing.fraction,
+            existing.thickening,
+            span.least,
+            span.most,
+        ];
+        let mut bytes = self.choose_bytes();
+        bytes.extend(words.iter().flat_map(|word| word.to_le_bytes()));
         bytes
     }
 
@@ -473,5 +504,34 @@ pub fn decode_works(bytes: &[u8], length: usize) -> Result<DecodedWorks, u32> {
             shares,
         },
         line: words[LINE],
+    })
+}
+
+/// What the reference is given for built tanks.
+pub struct DecodedBuilt {
+    pub plant: Plant,
+    pub readings: [Reading; 5],
+    pub existing: Existing,
+    pub span: Span,
+}
+
+/// A request for built tanks, or the number of its fault.
+pub fn decode_built(bytes: &[u8]) -> Result<DecodedBuilt, u32> {
+    let words = words(bytes, BUILT_LENGTH)?;
+    let (plant, readings) = data(&words)?;
+    Ok(DecodedBuilt {
+        plant,
+        readings,
+        existing: Existing {
+            reactor: words[BUILT_REACTOR],
+            surface: words[BUILT_SURFACE],
+            depth: words[BUILT_DEPTH],
+            fraction: words[BUILT_FRACTION],
+            thickening: words[BUILT_THICKENING],
+        },
+        span: Span {
+            least: words[LEAST_OF_SPAN],
+            most: words[MOST_OF_SPAN],
+        },
     })
 }

@@ -16,6 +16,7 @@ pub enum Operation {
     Target,
     Works,
     Line,
+    Built,
 }
 
 /// What the library answers: number, count and page.
@@ -37,6 +38,7 @@ fn call(operation: Operation, request: &[u8], page_length: usize) -> Given {
         Operation::Target => library::target(request, page),
         Operation::Works => library::works(request, page),
         Operation::Line => library::line(request, page),
+        Operation::Built => library::built(request, page),
     };
     Given {
         number,
@@ -55,6 +57,7 @@ pub fn expected(operation: Operation, request: &[u8], page_length: usize) -> Out
         Operation::Target => model::target(request, page_length),
         Operation::Works => model::works(request, page_length),
         Operation::Line => model::line(request, page_length),
+        Operation::Built => model::built(request, page_length),
     }
 }
 

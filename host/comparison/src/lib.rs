@@ -1,5 +1,6 @@
 //! The proved library beside the reference: the same requests to both.
 
+pub mod built;
 pub mod cod;
 pub mod compare;
 pub mod counts;

@@ -4,6 +4,7 @@ use crate::compare::Operation;
 use crate::logs;
 use crate::targets;
 use crate::works;
+use cases::built;
 use cases::cod_lines::with_random_way;
 use cases::lines::{on_cover, on_dose, random_on_line, with_dose, with_random_terms};
 use cases::model::EXPLAIN_PAGE;
@@ -156,6 +157,7 @@ pub fn any(random: &mut Random, tanks: &OnLines, operation: Operation) -> Vec<u8
             let works = works::divided(random, request);
             works::bytes(random, operation, &works)
         }
+        Operation::Built => built::random(random, request).bytes(),
     };
     if random.one_in(32) {
         damaged_length(random, bytes)

@@ -1,8 +1,11 @@
 //! Wide comparison of the library with the reference, from fixed seeds.
 
+#[path = "wide/built.rs"]
+mod built;
 #[path = "wide/sweeps.rs"]
 mod sweeps;
 
+use cases::built::{Asked, AMPLE};
 use cases::groups;
 use cases::random::Random;
 use cases::tanks::OnLines;
@@ -47,12 +50,17 @@ fn random_requests(operation: Operation, seed: u64, count: usize) -> Found {
     })
 }
 
-/// So many answers of each number but these, a day log's, a split's and those of
-/// an advance.
+/// The numbers of a day log, of a split, of an advance and of built tanks.
+const OF_ONE_CALL: [u32; 7] = [
+    DAY_LOG, DAY_VALUE, LINES, ADVANCE, UNFINISHED, SPAN, BUILT_SIZE,
+];
+
+/// So many answers of each number but these, and but those that one call alone
+/// gives.
 fn all_but(not_given: &[u32], least: usize) -> Vec<(u32, usize)> {
     let numbers = ALL.iter().map(|known| known.number);
     numbers
-        .filter(|number| ![DAY_LOG, DAY_VALUE, LINES, ADVANCE, UNFINISHED].contains(number))
+        .filter(|number| !OF_ONE_CALL.contains(number))
         .filter(|number| !not_given.contains(number))
         .map(|number| (number, least))
         .collect()
@@ -512,6 +520,7 @@ fn stack_as_stated() {
     let eight = works::equal(8);
     for request in [plant, vertical, seasons, by_cod] {
         let (examine, choose) = (request.examine_bytes(), request.choose_bytes());
+        let built = Asked::of(request, AMPLE, 50, 180).bytes();
         let (works, line) = (request.works_bytes(&eight), request.line_bytes(&eight, 8));
         for (call, bytes, stated) in [
             (library::CHOOSE, &choose, 16_000),
@@ -522,6 +531,7 @@ fn stack_as_stated() {
             (library::TARGET, &target, 3_000),
             (library::WORKS, &works, 21_000),
             (library::LINE, &line, 17_000),
+            (library::BUILT, &built, 3_000),
             (library::SWEEP_START, &choose, 3_000),
         ] {
             let (_, taken) = stack_of(call, bytes, &mut [0; WORKS_PAGE]);

@@ -64,6 +64,11 @@ calls! {
     /// whatever the other lines get, and writes the listing.
     line, LINE: pewgull_line;
 
+    /// Tries every sludge volume index of a span on the existing tanks of a
+    /// request of `BUILT_LENGTH` bytes, and writes the `BUILT_PAGE` bytes of
+    /// the smallest that they cannot hold, or of 0.
+    built, BUILT: pewgull_built;
+
     /// Starts a sweep for a request of `CHOOSE_LENGTH` bytes and writes the
     /// `STATE_LENGTH` bytes of its state; nothing where the data are refused.
     sweep_start, SWEEP_START: pewgull_sweep_start;

@@ -1,6 +1,7 @@
 //! The proved calls over their C interface, and the bytes of a request, of a
 //! day log and of a sweep's state.
 
+mod built;
 mod calls;
 mod census;
 mod figures;
@@ -13,16 +14,18 @@ mod sweep;
 mod terms;
 mod works;
 
-pub use calls::{census, choose, examine, explain, line, load, target, works};
+pub use built::{Built, Existing, Span, BUILT_PAGE, LEAST_INDEX, LEAST_SIZE, MOST_INDEX};
+pub use calls::{built, census, choose, examine, explain, line, load, target, works};
 pub use calls::{sweep_advance, sweep_examine, sweep_start};
 pub use calls::{AdvanceCall, ExamineCall, SWEEP_ADVANCE, SWEEP_EXAMINE, SWEEP_START};
-pub use calls::{Call, CENSUS, CHOOSE, EXAMINE, EXPLAIN, LINE, LOAD, TARGET, WORKS};
+pub use calls::{Call, BUILT, CENSUS, CHOOSE, EXAMINE, EXPLAIN, LINE, LOAD, TARGET, WORKS};
 pub use census::{Census, CENSUS_LENGTH, COUNTED};
 pub use figures::{Figures, TermFigures, FIGURES_LENGTH};
 pub use load::{day_log, Day, Load, LEAST_DAYS, LOAD_PAGE, MOST_BOD, MOST_DAYS, MOST_FLOW};
 pub use request::{
     Candidate, Precipitant, PrimarySettling, Process, Reading, Removal, Request, TankFlow, Way,
-    CHOOSE_LENGTH, EXAMINE_LENGTH, EXPLAIN_LENGTH, LINE_LENGTH, VERSION, WORKS_LENGTH,
+    BUILT_LENGTH, CHOOSE_LENGTH, EXAMINE_LENGTH, EXPLAIN_LENGTH, LINE_LENGTH, VERSION,
+    WORKS_LENGTH,
 };
 pub use sweep::{Progress, ADVANCE_MOST, STATE_LENGTH};
 pub use terms::{target_from_page, Date, Term, Terms, MOST_TERMS, TARGET_LENGTH, TARGET_PAGE};

@@ -40,6 +40,8 @@ numbers! {
     BULKING 17 "bulking sludge";
     LINES 18 "lines";
     ADVANCE 19 "advance";
+    SPAN 20 "span";
+    BUILT_SIZE 21 "built size";
     UNFINISHED 100 "unfinished";
     BAD_LENGTH 101 "bad length";
     BAD_VERSION 102 "bad version";
@@ -47,7 +49,7 @@ numbers! {
 }
 
 /// Whether a number says that the data, the candidate, the day log, the date,
-/// the split or the advance are refused.
+/// the split, the advance, the span or the existing tanks are refused.
 pub fn is_refusal(number: u32) -> bool {
     number != SHEET && number != SHORT_PAGE && number < UNFINISHED
 }

@@ -1,5 +1,6 @@
 //! A request and its bytes: 32-bit numbers, little-endian, without padding.
 
+use crate::built::{self, Existing, Span, BUILT_WORDS};
 use crate::terms::{Terms, TERMS_WORDS};
 use crate::works::{Split, SPLIT_WORDS};
 
@@ -27,6 +28,8 @@ pub const EXPLAIN_LENGTH: usize = EXAMINE_LENGTH;
 pub const WORKS_LENGTH: usize = 4 * (DATA_WORDS + SPLIT_WORDS);
 /// Bytes of a request for a line of a works: one word more, its number.
 pub const LINE_LENGTH: usize = WORKS_LENGTH + 4;
+/// Bytes of a request for existing tanks.
+pub const BUILT_LENGTH: usize = 4 * (DATA_WORDS + BUILT_WORDS);
 
 #[derive(Clone, Copy, Debug, Default, PartialEq, Eq)]
 pub enum Process {
@@ -216,6 +219,15 @@ impl Request {
         let mut bytes = [0; LINE_LENGTH];
         bytes[..WORKS_LENGTH].copy_from_slice(&self.to_works(split));
         put(&mut bytes[WORKS_LENGTH..], &[line]);
+        bytes
+    }
+
+    /// The bytes of a request for the existing tanks and the span of sludge
+    /// volume indices that they are to hold.
+    pub fn to_built(&self, existing: &Existing, span: &Span) -> [u8; BUILT_LENGTH] {
+        let mut bytes = [0; BUILT_LENGTH];
+        bytes[..CHOOSE_LENGTH].copy_from_slice(&self.to_choose());
+        put(&mut bytes[CHOOSE_LENGTH..], &built::words(existing, span));
         bytes
     }
 

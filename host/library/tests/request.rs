@@ -4,9 +4,9 @@ mod common;
 
 use common::{case_a, CASE_A_CANDIDATE};
 use library::{
-    Candidate, Date, Precipitant, PrimarySettling, Process, Reading, Removal, Request, Split,
-    TankFlow, Term, Terms, Way, CHOOSE_LENGTH, EXAMINE_LENGTH, EXPLAIN_LENGTH, LINE_LENGTH,
-    STATE_LENGTH, TARGET_LENGTH, WORKS_LENGTH,
+    Candidate, Date, Existing, Precipitant, PrimarySettling, Process, Reading, Removal, Request,
+    Span, Split, TankFlow, Term, Terms, Way, BUILT_LENGTH, CHOOSE_LENGTH, EXAMINE_LENGTH,
+    EXPLAIN_LENGTH, LINE_LENGTH, STATE_LENGTH, TARGET_LENGTH, WORKS_LENGTH,
 };
 
 fn word(bytes: &[u8], place: usize) -> u32 {
@@ -24,6 +24,7 @@ fn lengths_are_those_of_the_header_for_c() {
         ("WORKS", WORKS_LENGTH),
         ("LINE", LINE_LENGTH),
         ("STATE", STATE_LENGTH),
+        ("BUILT", BUILT_LENGTH),
     ];
     for (call, length) in lengths {
         let line = format!("#define PEWGULL_{call}_LENGTH {length}\n");
@@ -33,10 +34,16 @@ fn lengths_are_those_of_the_header_for_c() {
         (CHOOSE_LENGTH, EXAMINE_LENGTH, TARGET_LENGTH),
         (224, 236, 112)
     );
-    assert_eq!((WORKS_LENGTH, LINE_LENGTH), (260, 264));
-    let page = format!("#define PEWGULL_WORKS_PAGE {}\n", library::WORKS_PAGE);
-    assert!(header.contains(&page), "{page}");
-    assert_eq!(library::WORKS_PAGE, 1_024);
+    assert_eq!((WORKS_LENGTH, LINE_LENGTH, BUILT_LENGTH), (260, 264, 252));
+    let pages = [
+        ("WORKS", library::WORKS_PAGE),
+        ("BUILT", library::BUILT_PAGE),
+    ];
+    for (call, length) in pages {
+        let line = format!("#define PEWGULL_{call}_PAGE {length}\n");
+        assert!(header.contains(&line), "{line}");
+    }
+    assert_eq!((library::WORKS_PAGE, library::BUILT_PAGE), (1_024, 8));
     assert_eq!(library::FIGURES_LENGTH, 232);
     assert_eq!(library::CENSUS_LENGTH, 256);
 }
@@ -81,6 +88,28 @@ fn bytes_of_a_request_for_a_works() {
     assert_eq!(bytes[..CHOOSE_LENGTH], case_a().to_choose());
     assert_eq!(bytes[..WORKS_LENGTH], case_a().to_works(&split));
     for place in 56..66 {
+        assert_eq!(word(&bytes, place), place as u32, "word {place}");
+    }
+}
+
+/// The sizes are words 56 to 58, what they are run at the next two, and the
+/// span the last two; the data come before them unchanged.
+#[test]
+fn bytes_of_a_request_for_existing_tanks() {
+    let existing = Existing {
+        reactor: 56,
+        surface: 57,
+        depth: 58,
+        fraction: 59,
+        thickening: 60,
+    };
+    let span = Span {
+        least: 61,
+        most: 62,
+    };
+    let bytes = case_a().to_built(&existing, &span);
+    assert_eq!(bytes[..CHOOSE_LENGTH], case_a().to_choose());
+    for place in 56..63 {
         assert_eq!(word(&bytes, place), place as u32, "word {place}");
     }
 }

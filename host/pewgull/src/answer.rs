@@ -1,5 +1,6 @@
 //! The library's answers to the commands, as text and as members of JSON.
 
+use crate::built;
 use crate::census;
 use crate::consent;
 use crate::explanation;
@@ -8,6 +9,7 @@ use crate::works;
 use library::number::{self, SHEET};
 use library::sheet::candidates;
 use library::{target_from_page, Date, Terms, TARGET_PAGE};
+use library::{Built, Existing, Span, BUILT_PAGE};
 use library::{Candidate, Load, Request, LOAD_PAGE, PAGE_LENGTH};
 use library::{Split, Works, WORKS_PAGE};
 
@@ -167,5 +169,25 @@ pub fn works(request: &Request, split: &Split) -> Answer {
         text: text.into_bytes(),
         members,
         remark: None,
+    }
+}
+
+/// The answer of `built`: `held`, or the smallest index that is lost, with a
+/// remark on what fails there.
+pub fn built(request: &Request, existing: &Existing, span: &Span) -> Answer {
+    let mut page = [0; BUILT_PAGE];
+    let (number, _) = library::built(&request.to_built(existing, span), &mut page);
+    match Built::from_page(number, &page) {
+        Built::Refused(number) => refused(number),
+        Built::Held => Answer {
+            kind: "held",
+            ..listed(number, b"held\n")
+        },
+        Built::Lost(index) => Answer {
+            kind: "lost",
+            members: vec![json::number("sludge-volume-index", index)],
+            remark: Some(built::lost(request, existing, span, index as u32)),
+            ..listed(number, format!("lost {index}\n").as_bytes())
+        },
     }
 }

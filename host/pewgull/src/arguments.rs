@@ -1,10 +1,13 @@
 //! The command line, and the table of the commands.
 
 use crate::answer::{self, Answer};
+use crate::built::{ENDS, SIZES};
+use crate::keys::INDEX;
 use crate::sweep;
 use crate::values;
 use library::sheet::{Side, GRID};
 use library::{Candidate, Date, Request, Split, Terms, ADVANCE_MOST};
+use library::{Existing, Span, LEAST_SIZE};
 use std::ffi::OsString;
 
 /// What a command takes, and the call that answers it.
@@ -22,6 +25,8 @@ pub enum Action {
     Works(fn(&Request, &Split) -> Answer),
     /// `FILE`: one plant, some candidates at a time
     Sweep,
+    /// One plant, its existing tanks and a span of sludge volume indices
+    Built(fn(&Request, &Existing, &Span) -> Answer),
 }
 
 pub struct Form {
@@ -54,7 +59,7 @@ pub const COMMANDS: &[Form] = &[
     },
     Form {
         name: "load",
-        about: "prints the highest load over 14 consecutive days of a day log",
+        about: "prints the highest 14-day load of a day log, with --csv of a text file",
         action: Action::Logs(answer::load),
     },
     Form {
@@ -69,8 +74,13 @@ pub const COMMANDS: &[Form] = &[
     },
     Form {
         name: "sweep",
-        about: "prints what choose does, by some candidates at a time; can be put down",
+        about: "prints what choose does, by N at a time; with --state can be put down",
         action: Action::Sweep,
+    },
+    Form {
+        name: "built",
+        about: "says if REACTOR m3, SURFACE m2, DEPTH mm hold every SVI of LEAST..MOST",
+        action: Action::Built(answer::built),
     },
 ];
 
@@ -83,6 +93,7 @@ impl Form {
             Action::Logs(_) => "[--csv] LOG...",
             Action::Date(_) => "FILE MM-DD",
             Action::Sweep => "FILE [--by N] [--state FILE]",
+            Action::Built(_) => "FILE REACTOR SURFACE DEPTH F H LEAST MOST",
         }
     }
 
@@ -124,6 +135,10 @@ impl Form {
                 let (by, state) = (by(given)?, state(given)?);
                 Ok((Task::Sweep(sweep::Options { by, state }), vec![file]))
             }
+            Action::Built(call) => {
+                let (file, existing, span) = self.file_and_tanks(words)?;
+                Ok((Task::Built(call, existing, span), vec![file]))
+            }
         }
     }
 
@@ -138,6 +153,30 @@ impl Form {
                 words.len()
             ))),
         }
+    }
+
+    /// FILE REACTOR SURFACE DEPTH F H LEAST MOST.
+    fn file_and_tanks(&self, words: &[OsString]) -> Result<(OsString, Existing, Span), String> {
+        let [file, reactor, surface, depth, fraction, thickening, least, most] = words else {
+            return Err(usage(&format!(
+                "expected {} {}, one file and seven numbers (words given: {})",
+                self.name,
+                self.words(),
+                words.len()
+            )));
+        };
+        let existing = Existing {
+            reactor: size(0, reactor)?,
+            surface: size(1, surface)?,
+            depth: size(2, depth)?,
+            fraction: number(&GRID[0], fraction)?,
+            thickening: number(&GRID[2], thickening)?,
+        };
+        let span = Span {
+            least: end(0, least)?,
+            most: end(1, most)?,
+        };
+        Ok((file.clone(), existing, span))
     }
 
     /// One file or more.
@@ -161,6 +200,7 @@ pub enum Task {
     Date(fn(&Terms, Date) -> Answer, Date),
     Works(fn(&Request, &Split) -> Answer),
     Sweep(sweep::Options),
+    Built(fn(&Request, &Existing, &Span) -> Answer, Existing, Span),
 }
 
 /// A command with its words.
@@ -353,6 +393,28 @@ fn number(side: &Side, word: &OsString) -> Result<u32, String> {
         let range = side.range();
         usage(&format!(
             "{meaning} {letter}: {wrong}; expected a whole number, {range}, in {unit}"
+        ))
+    })
+}
+
+/// A size of the existing tanks, by its place. A 0 is the library's to refuse.
+fn size(place: usize, word: &OsString) -> Result<u32, String> {
+    let (name, line) = (SIZES[place].word, SIZES[place].line);
+    values::whole(&word.to_string_lossy()).map_err(|wrong| {
+        let (meaning, unit) = (line.meaning, line.unit);
+        usage(&format!(
+            "{meaning} {name}: {wrong}; expected a whole number, at least {LEAST_SIZE}, in {unit}"
+        ))
+    })
+}
+
+/// An end of a span of sludge volume indices, by its place. Its range is the
+/// library's to hold it to.
+fn end(place: usize, word: &OsString) -> Result<u32, String> {
+    values::whole(&word.to_string_lossy()).map_err(|wrong| {
+        let (name, range, unit) = (ENDS[place], INDEX.digits(), INDEX.unit);
+        usage(&format!(
+            "sludge volume index {name}: {wrong}; expected a whole number, {range}, in {unit}"
         ))
     })
 }

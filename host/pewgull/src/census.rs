@@ -37,7 +37,8 @@ pub fn lines(census: &Census) -> impl Iterator<Item = String> + '_ {
 /// the tank alone.
 const OF_FRACTION: [u32; 3] = [NITRATE, NITRIFICATION, TERM_NITRATE];
 
-fn is_of_fraction(rule: u32) -> bool {
+/// Whether a rule asks of the fraction alone.
+pub fn is_of_fraction(rule: u32) -> bool {
     OF_FRACTION.contains(&rule)
 }
 

@@ -3,10 +3,10 @@
 //! another number.
 
 use crate::consent;
-use crate::keys::{Field, Key, Range, HEADS, KEYS, MOST_BULKING, MOST_INDEX};
+use crate::keys::{Field, Key, Range, HEADS, KEYS, MOST_BULKING};
 use crate::plant_file::PlantFile;
 use library::number::{BULKING, COD_RATIO, NO_NUMBER, PLANT_DATA, READING_RANGE, TERMS};
-use library::{Reading, Request, Way};
+use library::{Reading, Request, Way, MOST_INDEX};
 
 /// What a reading comes to.
 struct Outcome<'a> {

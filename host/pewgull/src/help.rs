@@ -3,7 +3,7 @@
 use crate::arguments::COMMANDS;
 use crate::census;
 use crate::keys::{shares_expected, SHARES_WORDS, TERM_TARGET, TERM_TEMPERATURE, TERM_WORDS};
-use crate::keys::{Field, HEADS, KEYS, MOST_DOSE_WITHOUT_SLUDGE};
+use crate::keys::{Field, HEADS, INDEX, KEYS, MOST_DOSE_WITHOUT_SLUDGE};
 use crate::values::listed;
 use crate::works::SPLIT;
 use library::number;
@@ -56,9 +56,7 @@ Exit status: 0 an answer; 1 a refusal; 2 a file or usage error; 130 interrupted
 pub fn short() -> String {
     format!(
         "{}\n{}--json   prints one JSON object for each file, on a line of its own\n\
-         --by     candidates of an advance, 1..{ADVANCE_MOST}; --state: a file that keeps the sweep\n\
          FILE     a plant file (examples/case-a.plant has every key); - is standard input\n\
-         LOG      a day log; with --csv a text file, flow and BOD in a line for each day\n\
          {}{STATUS}\
          Example: pewgull examine examples/case-a.plant 300 75 20\n",
         usage(),
@@ -81,6 +79,7 @@ pub fn manual() -> String {
     );
     text += &works();
     text += &sweep();
+    text += &built();
     text += &day_log();
     text += "\nThe line of a target\n  \
              target         lowest nitrate target in force that day, mg/m3; 0: no term runs\n";
@@ -155,6 +154,25 @@ fn sweep() -> String {
          is kept in a file, {STATE_LENGTH} bytes that are the same on every machine; the command\n\
          given again goes on from there, or prints the answer again. A file that is not\n\
          there yet starts a new sweep; one of other plant data is left as it is.\n"
+    )
+}
+
+/// What existing tanks are asked, and what the answer means.
+fn built() -> String {
+    format!(
+        "\nThe line of existing tanks\n  \
+         held           they hold every sludge volume index of LEAST..MOST\n  \
+         lost SVI       the smallest index of the span that they do not hold, {}\n\
+         REACTOR is the volume of the reactor as built, SURFACE and DEPTH are those of\n\
+         the settling tank, F and H as they are run; LEAST..MOST is within {} {}.\n\
+         For each index every return ratio R is tried. It is held where one of them is\n\
+         permitted with that index, and needs no more than is built. The file's own index\n\
+         is checked and not used further; its site limits and its terms are held to. Each\n\
+         index stands for itself: one above a lost one may be held. A lost index is an\n\
+         answer, with exit status 0; standard error says what fails at both ends of R.\n",
+        INDEX.unit,
+        INDEX.digits(),
+        INDEX.unit
     )
 }
 

@@ -3,7 +3,7 @@
 use crate::plant_file::PlantFile;
 use crate::values;
 use library::{Precipitant, PrimarySettling, Process, Reading, Removal, Request, TankFlow, Way};
-use library::{LEAST_LINES, LEAST_SHARE, MOST_LINES, WHOLE};
+use library::{LEAST_INDEX, LEAST_LINES, LEAST_SHARE, MOST_INDEX, MOST_LINES, WHOLE};
 use std::str::SplitWhitespace;
 
 /// A range of whole numbers and what they count.
@@ -135,11 +135,14 @@ const PROCESS_WORDS: &[&str] = &[
 
 /// Range of the design temperature and of the aeration temperature.
 pub const DEGREES: (u32, u32, &str) = (10, 20, "degrees Celsius");
-/// Largest sludge volume index that is not bulking sludge, l/kg.
-pub const MOST_INDEX: u32 = 180;
+/// Range of a sludge volume index, of a plant and of a span.
+pub const INDEX: Range = Range {
+    least: LEAST_INDEX,
+    most: MOST_INDEX,
+    unit: "l/kg",
+};
 /// Above it, up to this one, the refusal is 17; beyond it is 1.
 pub const MOST_BULKING: u32 = 200;
-const INDEX: (u32, u32, &str) = (50, MOST_INDEX, "l/kg");
 const NITRATE: (u32, u32, &str) = (1_000, 50_000, "mg/m3");
 const PEAK: (u32, u32, &str) = (100, 300, "hundredths");
 /// Largest dose of external carbon, mg/m3 as COD.
@@ -180,7 +183,7 @@ pub const KEYS: [Key; 27] = [
     whole("wet-weather-flow", "wet weather flow", (1, 50_000, "m3/h"), |r| &mut r.wet_weather_flow),
     whole("design-temperature", "design temperature", DEGREES, |r| &mut r.design_temperature),
     whole("aeration-temperature", "aeration temperature", DEGREES, |r| &mut r.aeration_temperature),
-    whole("sludge-volume-index", "sludge volume index", INDEX, |r| &mut r.sludge_volume_index),
+    required("sludge-volume-index", "sludge volume index", Field::Whole(INDEX, |r| &mut r.sludge_volume_index)),
     whole("nitrate-target", "nitrate target", NITRATE, |r| &mut r.nitrate_target),
     whole("phosphorus-target", "phosphorus target", (0, 100_000, "mg/m3"), |r| &mut r.phosphorus_target),
     whole("carbon-peak", "carbon peak factor", PEAK, |r| &mut r.carbon_peak),

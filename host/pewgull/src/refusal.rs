@@ -3,7 +3,7 @@
 use crate::census;
 use crate::culprit;
 use crate::explanation::{self, LEAST_SOLIDS, MOST_SLUDGE_VOLUME};
-use crate::keys::{MOST_DOSE, MOST_DOSE_WITHOUT_SLUDGE, MOST_INDEX};
+use crate::keys::{INDEX, MOST_DOSE, MOST_DOSE_WITHOUT_SLUDGE};
 use crate::plant_file::PlantFile;
 use crate::season;
 use crate::values::{filled, grouped};
@@ -20,7 +20,8 @@ pub fn words(number: u32, file: &PlantFile, candidate: Option<Candidate>) -> Str
         READING_RANGE => "a head count or the result of a reading is outside its range".to_string(),
         COD_RATIO => "five times the COD is more than eleven times the BOD".to_string(),
         BULKING => format!(
-            "the sludge volume index is above {MOST_INDEX} l/kg, a fault to cure before building"
+            "the sludge volume index is above {} {}, a fault to cure before building",
+            INDEX.most, INDEX.unit
         ),
         NO_DESIGN => no_design(request),
         OFF_GRID => off_grid(request.tank, candidate),
@@ -79,14 +80,21 @@ fn no_design(request: &Request) -> String {
 const EXPLAIN: &str =
     "\n  'pewgull explain FILE F R H' shows how far a candidate is from its limits";
 
-/// The sides of the grid that the candidate is not on.
 fn off_grid(tank: TankFlow, candidate: Option<Candidate>) -> String {
-    let mut text = "the candidate is not on the grid".to_string();
+    let sides = candidate.map(|candidate| off_sides(tank, candidate));
+    format!(
+        "the candidate is not on the grid{}",
+        sides.unwrap_or_default()
+    )
+}
+
+/// The sides of the grid that the candidate is not on, a line each.
+pub fn off_sides(tank: TankFlow, candidate: Candidate) -> String {
+    let mut text = String::new();
     for side in &GRID {
         let (least, most) = (side.least, side.most(tank));
-        let value = candidate.map(|candidate| side.of(&candidate));
-        if value.is_some_and(|value| value < least || value > most) {
-            let value = value.unwrap_or_default();
+        let value = side.of(&candidate);
+        if value < least || value > most {
             text += &format!(
                 "\n  {} {value}: expected {least}..{most} {} in {} flow",
                 side.letter,
@@ -135,47 +143,73 @@ fn larger_fraction(helps: bool) -> Move {
     }
 }
 
+/// The rule that a candidate of existing tanks breaks, with its figure and its
+/// limit; what to look at, where it is a rule of the fraction alone.
+pub fn broken_rule(number: u32, request: &Request, candidate: Candidate) -> String {
+    let text = explanation::figures(request, candidate).map(|figures| {
+        if census::is_of_fraction(number) {
+            return broken_limit(number, request, candidate, &figures);
+        }
+        let limit = limit(number, request, candidate, &figures);
+        limit.map(|(text, _, _)| text).unwrap_or_default()
+    });
+    headed(number, &text.unwrap_or_default())
+}
+
 /// Refusals 7, 15, 16 and 8 to 10: the figure and its limit, keys to look at,
 /// and moves.
 fn broken_limit(number: u32, request: &Request, candidate: Candidate, figures: &Figures) -> String {
+    let Some((text, keys, way)) = limit(number, request, candidate, figures) else {
+        return String::new();
+    };
+    let moves = moves(way, request.tank, candidate);
+    text + &filled(&format!("Look at {keys}{moves}"))
+}
+
+/// The figure and its limit, the keys to look at, and the move that helps.
+fn limit(
+    number: u32,
+    request: &Request,
+    candidate: Candidate,
+    figures: &Figures,
+) -> Option<(String, String, Move)> {
+    let rule = match number {
+        NITRATE => nitrate,
+        NITRIFICATION => season::nitrification,
+        TERM_NITRATE => season::nitrate,
+        _ => return limit_of_tank(number, request, figures),
+    };
+    let (text, keys, helps) = rule(request, candidate, figures);
+    Some((text, keys, larger_fraction(helps)))
+}
+
+/// The same of the rules that ask of the tank alone.
+fn limit_of_tank(
+    number: u32,
+    request: &Request,
+    figures: &Figures,
+) -> Option<(String, String, Move)> {
     let both = &["R", "H"];
     let (text, keys, way) = match number {
-        NITRATE => {
-            let (text, keys, helps) = nitrate(request, candidate, figures);
-            (text, keys, larger_fraction(helps))
-        }
-        NITRIFICATION => {
-            let (text, keys, helps) = season::nitrification(request, candidate, figures);
-            (text, keys, larger_fraction(helps))
-        }
-        TERM_NITRATE => {
-            let (text, keys, helps) = season::nitrate(request, candidate, figures);
-            (text, keys, larger_fraction(helps))
-        }
         SOLIDS if figures.solids < LEAST_SOLIDS => (
             few_solids(figures),
-            "sludge-volume-index, removal".to_string(),
+            "sludge-volume-index, removal",
             Move::Larger(both),
         ),
-        SOLIDS => (
-            much_volume(figures),
-            "removal".to_string(),
-            Move::Smaller(both),
-        ),
+        SOLIDS => (much_volume(figures), "removal", Move::Smaller(both)),
         SURFACE => (
             surface(request, figures),
-            "site-surface, wet-weather-flow, tank, removal".to_string(),
+            "site-surface, wet-weather-flow, tank, removal",
             Move::Smaller(both),
         ),
         DEPTH => (
             depth(request, figures),
-            "site-depth, R and H, tank, removal".to_string(),
+            "site-depth, R and H, tank, removal",
             Move::None,
         ),
-        _ => return String::new(),
+        _ => return None,
     };
-    let moves = moves(way, request.tank, candidate);
-    text + &filled(&format!("Look at {keys}{moves}"))
+    Some((text, keys.to_string(), way))
 }
 
 /// The two nitrate columns, with the parts of the right one.

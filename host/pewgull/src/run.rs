@@ -2,6 +2,7 @@
 
 use crate::answer::Answer;
 use crate::arguments::{Command, Task};
+use crate::built;
 use crate::consent;
 use crate::day_file::{self, Log};
 use crate::input::{contents, reason};
@@ -108,6 +109,11 @@ fn found(command: &Command, file: &OsStr, name: &str) -> Result<Found, Vec<Strin
             })
         }
         Task::Sweep(options) => swept(options, command.json, file, name),
+        Task::Built(call, existing, span) => {
+            let plant = read(file, name, plant_file::parse)?;
+            let words = |number| built::words(number, &plant, existing, span);
+            settled(call(&plant.request, existing, span), name, words)
+        }
     }
 }
 

@@ -553,9 +553,9 @@ fn several_files_have_headings_and_the_largest_status() {
 }
 
 #[rustfmt::skip]
-const USAGE_ERRORS: [(&str, &str); 33] = [
-    ("", "no command; expected choose, examine, explain, census, load, target, works, sweep or help"),
-    ("chose", "'chose' is no command; expected choose, examine, explain, census, load, target, works, sweep or help"),
+const USAGE_ERRORS: [(&str, &str); 44] = [
+    ("", "no command; expected choose, examine, explain, census, load, target, works, sweep, built or help"),
+    ("chose", "'chose' is no command; expected choose, examine, explain, census, load, target, works, sweep, built or help"),
     ("load --csv", "expected load [--csv] LOG..."),
     ("choose --csv F", "--csv is for the command load alone"),
     ("target --csv F 01-01", "--csv is for the command load alone"),
@@ -581,6 +581,17 @@ const USAGE_ERRORS: [(&str, &str); 33] = [
     ("sweep F --state --json", "--state has no value; expected a file"),
     ("sweep F --state -", "--state: '-' cannot keep a state; expected a file"),
     ("sweep F --by 1 --by 2", "--by was given already; expected it once"),
+    ("built", "expected built FILE REACTOR SURFACE DEPTH F H LEAST MOST, one file and seven numbers (words given: 0)"),
+    ("built F 1 1 1 300 20 50", "expected built FILE REACTOR SURFACE DEPTH F H LEAST MOST, one file and seven numbers (words given: 7)"),
+    ("built F 1 1 1 300 20 50 60 70", "expected built FILE REACTOR SURFACE DEPTH F H LEAST MOST, one file and seven numbers (words given: 9)"),
+    ("built F x 1 1 300 20 50 60", "reactor volume REACTOR: 'x' is not a whole number; expected a whole number, at least 1, in m3"),
+    ("built F 1 0.5 1 300 20 50 60", "settling surface SURFACE: '0.5' is not a whole number; expected a whole number, at least 1, in m2"),
+    ("built F 1 1 -5 300 20 50 60", "settling depth DEPTH: '-5' is not a whole number; expected a whole number, at least 1, in mm"),
+    ("built F 4294967296 1 1 300 20 50 60", "reactor volume REACTOR: '4294967296' is too large; expected"),
+    ("built F 1 1 1 0.3 20 50 60", "fraction F: '0.3' is not a whole number; expected a whole number, 200..500, in"),
+    ("built F 1 1 1 300 2h 50 60", "thickening time H: '2h' is not a whole number; expected a whole number, 20..25, in"),
+    ("built F 1 1 1 300 20 50..60 60", "sludge volume index LEAST: '50..60' is not a whole number; expected a whole number, 50..180, in l/kg"),
+    ("built F 1 1 1 300 20 50 4294967296", "sludge volume index MOST: '4294967296' is too large; expected a whole number, 50..180, in l/kg"),
     ("examine F", "expected examine FILE F R H, one file and three numbers (words given: 1)"),
     ("explain F 300 75", "expected explain FILE F R H"),
     ("examine F 300 75 20 1", "expected examine FILE F R H"),

@@ -8,10 +8,12 @@ use library::sheet::{candidates, GRID, LINES};
 use library::{TankFlow, COUNTED, LEAST_DAYS, MOST_BOD, MOST_DAYS, MOST_FLOW, MOST_TERMS};
 use library::{ADVANCE_MOST, CHOOSE_LENGTH, STATE_LENGTH};
 use library::{LEAST_LINES, LEAST_SHARE, MOST_LINES, SUMS, WHOLE};
+use library::{LEAST_SIZE, MOST_INDEX};
 use pewgull::arguments::COMMANDS;
+use pewgull::built::{ENDS, SIZES};
 use pewgull::census::label;
 use pewgull::keys::{
-    shares_expected, Field, HEADS, KEYS, MOST_BULKING, MOST_DOSE_WITHOUT_SLUDGE, MOST_INDEX,
+    shares_expected, Field, HEADS, INDEX, KEYS, MOST_BULKING, MOST_DOSE_WITHOUT_SLUDGE,
     SHARES_WORDS, TERM_TARGET, TERM_TEMPERATURE, TERM_WORDS,
 };
 use pewgull::run::INTERRUPTED;
@@ -328,6 +330,45 @@ fn sweep() {
     }
 }
 
+/// The words of a request for existing tanks, the range of a span, and the
+/// examples: a held span, a lost index, and a larger one that is held.
+#[test]
+fn existing_tanks() {
+    let readme = plain(&document("README.md"));
+    let header = plain(&document("include/pewgull.h"));
+    let help = plain(&pewgull(&["help"]).out);
+    let (range, unit) = (INDEX.digits(), INDEX.unit);
+    let sizes = SIZES.map(|size| {
+        let (meaning, unit) = (size.line.meaning, size.line.unit);
+        format!("{meaning} as built, {unit}, at least {LEAST_SIZE}")
+    });
+    let run_at = [0, 2].map(|side| format!("{}, {}", GRID[side].meaning, GRID[side].range()));
+    let ends = [
+        format!("least sludge volume index of the span, {range} {unit}"),
+        format!("largest one, {range} {unit}"),
+    ];
+    let words = sizes.iter().chain(&run_at).chain(&ends);
+    for (word, what) in (CHOOSE_LENGTH / 4..).zip(words) {
+        let row = format!(" {word} {}..{} {what}", 4 * word, 4 * word + 3);
+        has(&header, "the header", &row);
+    }
+    for document in [&readme, &help] {
+        has(document, "a document", &format!("within {range} {unit}"));
+        for word in SIZES.map(|size| size.word).iter().chain(&ENDS) {
+            has(document, "a document", word);
+        }
+    }
+    let empty = format!("empty or not within {range}");
+    has(&header, "the header", &empty);
+    has(&readme, "README.md", &format!("both in {range} {unit}"));
+    for span in ["90 140", "90 160", "146 146"] {
+        let tanks = "4450 300 5000 400 24";
+        shows(&format!(
+            "built examples/existing-works.plant {tanks} {span}"
+        ));
+    }
+}
+
 /// The works short of BOD, without a dose and with one.
 #[test]
 fn dose() {
@@ -410,6 +451,8 @@ fn lengths() {
         ("STATE_LENGTH", library::STATE_LENGTH),
         ("ADVANCE_MOST", library::ADVANCE_MOST as usize),
         ("WORKS_PAGE", library::WORKS_PAGE),
+        ("BUILT_LENGTH", library::BUILT_LENGTH),
+        ("BUILT_PAGE", library::BUILT_PAGE),
     ] {
         has(
             &header,

@@ -1,6 +1,6 @@
 //! The files of examples/: each plant gets the answer that it shows, the two
-//! years have their wet fortnight, and the C programs print Case A and its
-//! choice.
+//! years have their wet fortnight, and the C programs print Case A, its choice,
+//! and what existing tanks lose.
 
 mod common;
 
@@ -10,7 +10,7 @@ use std::path::Path;
 use std::process::Command;
 
 /// Each file, its answer's first lines, and its exit status.
-const ANSWERS: [(&str, &str, i32); 15] = [
+const ANSWERS: [(&str, &str, i32); 16] = [
     ("bulking-sludge.plant", "refused 17\n", 1),
     (
         "case-a.plant",
@@ -25,6 +25,11 @@ const ANSWERS: [(&str, &str, i32); 15] = [
     (
         "colder-winter-term.plant",
         "fraction 404\nreturn 75\nthickening 25\n",
+        0,
+    ),
+    (
+        "existing-works.plant",
+        "fraction 386\nreturn 66\nthickening 20\n",
         0,
     ),
     (
@@ -256,4 +261,22 @@ fn a_sweep_in_c() {
     assert!(ran
         .err
         .starts_with("1000 of 83076 candidates, none permitted yet\n"));
+}
+
+/// The existing works in C: what `built` prints for the plant file, and on
+/// standard error every index of the span that is lost.
+#[test]
+fn existing_tanks_in_c() {
+    let ran = c_program("built");
+    let path = example("existing-works.plant");
+    let built = |least: &str, most: &str| {
+        let tanks = ["4450", "300", "5000", "400", "24", least, most];
+        pewgull(&[&["built", &path], &tanks[..]].concat()).out
+    };
+    assert_eq!((ran.status, ran.out), (0, built("90", "160")));
+    let lost = (90..=160).map(|index| index.to_string());
+    let lost = lost.filter(|index| built(index, index) != "held\n");
+    let told: String = lost.map(|index| format!("{index} is lost\n")).collect();
+    assert_eq!(ran.err, told);
+    assert!(told.starts_with("145 is lost\n147 is lost\n"));
 }

@@ -250,6 +250,32 @@ fn a_refused_works() {
     }
 }
 
+/// `held` and `lost` are statuses of their own, the index a number.
+#[test]
+fn existing_tanks() {
+    let path = example("existing-works.plant");
+    let built = |least: &str, most: &str| {
+        let tanks = ["4450", "300", "5000", "400", "24", least, most];
+        pewgull(&[&["built", "--json", &path], &tanks[..]].concat())
+    };
+    let ran = built("90", "140");
+    assert_eq!((ran.status, ran.err.as_str()), (0, ""));
+    let expected = format!("file {path}\nstatus held\n");
+    assert_eq!(listing(ran.out.trim_end()), expected);
+    let ran = built("90", "160");
+    assert_eq!((ran.status, ran.out.lines().count()), (0, 1));
+    let start = format!("file {path}\nstatus lost\nsludge-volume-index 145\nmessage ");
+    let members = listing(ran.out.trim_end());
+    let message = members.strip_prefix(&start).unwrap();
+    assert_eq!(ran.err, format!("pewgull: {message}"));
+    let ran = built("90", "181");
+    assert_eq!(ran.status, 1);
+    let start = format!("file {path}\nstatus refused\nnumber 20\nword span\nmessage ");
+    let members = listing(ran.out.trim_end());
+    let message = members.strip_prefix(&start).unwrap();
+    assert_eq!(ran.err, format!("pewgull: {message}"));
+}
+
 /// One object for each file, whatever comes of it.
 #[test]
 fn each_file_has_its_object() {

@@ -4,13 +4,14 @@
 mod common;
 
 use common::CASE_A;
+use library::number::{BUILT_SIZE, PLANT_DATA, READING_RANGE, SHEET, SPAN, TERMS};
 use library::number::{BULKING, COD_RATIO, LINES, NO_DESIGN, NO_NUMBER};
-use library::number::{PLANT_DATA, READING_RANGE, SHEET, TERMS};
-use library::{choose, examine, explain, line, target, works};
+use library::{built, choose, examine, explain, line, target, works};
 use library::{Candidate, Date, Reading, Request, Split, Term, Terms, Way};
+use library::{Existing, Span, BUILT_PAGE, LEAST_SIZE};
 use library::{FIGURES_LENGTH, MOST_TERMS, PAGE_LENGTH, TARGET_PAGE, WORKS_PAGE};
 use library::{LEAST_LINES, LEAST_SHARE, MOST_LINES, WHOLE};
-use pewgull::keys::{Field, Range, HEADS, KEYS, MOST_BULKING, MOST_DOSE_WITHOUT_SLUDGE};
+use pewgull::keys::{Field, Range, HEADS, INDEX, KEYS, MOST_BULKING, MOST_DOSE_WITHOUT_SLUDGE};
 use pewgull::keys::{TERM_TARGET, TERM_TEMPERATURE};
 use pewgull::plant_file::{self, PlantFile};
 use pewgull::works::{plant, refused_lines, Refused};
@@ -502,4 +503,38 @@ fn head_counts_as_measured_readings() {
         assert_eq!(sheet(&request), sheet(&measured));
     }
     assert!(accepted > 2_000, "{accepted}");
+}
+
+/// What existing tanks of these sizes get for a span.
+fn for_tanks([reactor, surface, depth]: [u32; 3], least: u32, most: u32) -> u32 {
+    let existing = Existing {
+        reactor,
+        surface,
+        depth,
+        fraction: CANDIDATE.fraction,
+        thickening: CANDIDATE.thickening,
+    };
+    let request = case_a().to_built(&existing, &Span { least, most });
+    built(&request, &mut [0; BUILT_PAGE]).0
+}
+
+#[test]
+fn spans_and_built_sizes() {
+    let Range { least, most, .. } = INDEX;
+    let tanks = [LEAST_SIZE; 3];
+    for (least, most, number) in [
+        (least, most, SHEET),
+        (least, least, SHEET),
+        (most, most, SHEET),
+        (least - 1, most, SPAN),
+        (least, most + 1, SPAN),
+        (most, least, SPAN),
+    ] {
+        assert_eq!(for_tanks(tanks, least, most), number, "{least}..{most}");
+    }
+    for place in 0..3 {
+        let mut tanks = tanks;
+        tanks[place] = LEAST_SIZE - 1;
+        assert_eq!(for_tanks(tanks, least, most), BUILT_SIZE);
+    }
 }

@@ -7,6 +7,7 @@
 
 pub mod aeration;
 pub mod age;
+pub mod built;
 pub mod choose;
 pub mod cod;
 pub mod day_log;
@@ -25,6 +26,7 @@ pub mod sweep;
 pub mod terms;
 pub mod works;
 
+pub use built::{built, Existing, Span};
 pub use choose::{census, choose};
 pub use day_log::{two_week_load, TwoWeekLoad};
 pub use examine::{examine, Candidate};

@@ -19,3 +19,5 @@ pub const TERM_NITRATE: u8 = 16;
 pub const BULKING: u8 = 17;
 pub const LINES: u8 = 18;
 pub const ADVANCE: u8 = 19;
+pub const SPAN: u8 = 20;
+pub const BUILT_SIZE: u8 = 21;

@@ -1,5 +1,7 @@
 //! Tests of the reference implementation.
 
+#[path = "cases/built.rs"]
+mod built;
 #[path = "cases/bulking.rs"]
 mod bulking;
 #[path = "cases/census.rs"]

@@ -1,14 +1,17 @@
-//! Choices, censuses, examinations, two-week loads, works in lines and whole
-//! sweeps per second of the library and of the reference, on the same plants and
-//! day logs; the time of a census beside that of a choice, of a choice with four
-//! terms beside one without, of one in the COD way beside one in the BOD way, of
-//! a works beside as many choices as it has lines, of an advance beside as many
-//! examinations and of a whole sweep beside a choice; and the stack that a call
-//! takes.
+//! Choices, censuses, examinations, two-week loads, works in lines, whole sweeps
+//! and built tanks per second of the library and of the reference, on the same
+//! plants and day logs; the time of a census beside that of a choice, of a choice
+//! with four terms beside one without, of one in the COD way beside one in the BOD
+//! way, of a works beside as many choices as it has lines, of an advance beside as
+//! many examinations, of a whole sweep and of built tanks beside a choice; and the
+//! stack that a call takes.
 
+#[path = "benchmark/built.rs"]
+mod built;
 #[path = "benchmark/sweeps.rs"]
 mod sweeps;
 
+use cases::built::{Asked, AMPLE};
 use cases::model;
 use cases::plants;
 use cases::random::Random;
@@ -322,7 +325,7 @@ fn works_beside_choices(plants: &[Request], lines: u32) -> f64 {
 
 /// The most stack that a call takes over all plants.
 fn stacks(plants: &[Request]) {
-    let mut most = [0; 11];
+    let mut most = [0; 12];
     let eight = works::equal(8);
     let log = &ten_years()[0];
     let winter = [11, 16, 3, 15, 8, 20_000];
@@ -334,6 +337,7 @@ fn stacks(plants: &[Request]) {
         let (examine, choose) = (plant.examine_bytes(), plant.choose_bytes());
         let last = grid_number(plant) - ADVANCE_MOST;
         let state = plant.state_bytes(last, NONE_YET);
+        let built = Asked::of(*plant, AMPLE, 50, 180).bytes();
         let taken = [
             stack_of(library::CHOOSE, &choose, &mut page),
             stack_of(library::EXAMINE, &examine, &mut page),
@@ -346,6 +350,7 @@ fn stacks(plants: &[Request]) {
             stack_of(library::SWEEP_START, &choose, &mut page),
             stack_of_advance(&state),
             stack_of_examination(&state),
+            stack_of(library::BUILT, &built, &mut page),
         ];
         assert_eq!(taken[0].0, chosen(plant));
         for (most, (_, bytes)) in most.iter_mut().zip(taken) {
@@ -353,7 +358,7 @@ fn stacks(plants: &[Request]) {
         }
     }
     let names = "choose, examine, explain, census, load, target, works, line, \
-                 start of a sweep, advance, examine in a sweep";
+                 start of a sweep, advance, examine in a sweep, built tanks";
     let each = names.split(", ").zip(most);
     let listed: Vec<String> = each.map(|(name, most)| format!("{name} {most}")).collect();
     println!("stack, bytes: {}", listed.join(", "));
@@ -415,6 +420,11 @@ fn limits(plants: &[Request]) {
         choices <= 150.0,
         "a whole sweep is to take at most the time of 150 choices"
     );
+    let choices = built::tanks_beside_choice(plants);
+    assert!(
+        choices <= 60.0,
+        "built tanks are to take at most the time of 60 choices"
+    );
 }
 
 fn main() {
@@ -435,6 +445,7 @@ fn main() {
         works_rates(&plants, lines);
     }
     sweeps::rates_of_sweeps(&plants);
+    built::rates_of_tanks(&plants);
     stacks(&plants);
     limits(&plants);
 }
