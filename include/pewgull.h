@@ -1,6 +1,6 @@
 /*
  * Pewgull: dimensioning of single-stage activated sludge plants with nitrogen
- * removal. Twelve calls, for x86-64 and its C calling convention (System V).
+ * removal. Fourteen calls, for x86-64 and its C calling convention (System V).
  *
  * Each call takes the bytes of a request, of a day log or of a sweep's state,
  * writes on a page that the caller lends, stores the number of bytes written
@@ -9,10 +9,10 @@
  * anything else: what a sweep hands on is in the state, which the caller
  * keeps. Several threads may call at once, each with memory of its own; two
  * that go on with one sweep take turns, or a copy of its state each. A choice
- * takes 9 kB of stack, a works 14 kB, a line of a works and an advance of a
- * sweep 10 kB; examining, also in a sweep, explaining, a census, a load, a
- * target, existing tanks and the start of a sweep take 3 kB. The archive needs
- * memcpy and memset, and nothing more.
+ * takes 9 kB of stack, a works 14 kB, a line of a works, an advance of a sweep
+ * and a choice that is priced 10 kB; examining, also in a sweep or priced,
+ * explaining, a census, a load, a target, existing tanks and the start of a
+ * sweep take 3 kB. The archive needs memcpy and memset, and nothing more.
  *
  * What the caller sees to
  *   - request points to request_length readable bytes, log to log_length,
@@ -63,12 +63,14 @@
  *                     A request to choose, for a census or to start a sweep
  *                     ends here; one for a works or for a line goes on in
  *                     words of its own (see pewgull_works), and so do one for
- *                     existing tanks (see pewgull_built) and the state of a
- *                     sweep (see pewgull_sweep_start).
+ *                     existing tanks (see pewgull_built), one for a price (see
+ *                     pewgull_price_choose) and the state of a sweep (see
+ *                     pewgull_sweep_start).
  *   56     224..227   fraction, 200..500 thousandths
  *   57     228..231   return ratio, 30..75 (vertical flow 30..100) hundredths
  *   58     232..235   thickening time, 20..25 tenths of an hour
- *                     A request to examine or to explain ends here.
+ *                     A request to examine or to explain ends here; one that
+ *                     is priced goes on (see pewgull_price_examine).
  *
  *   A term of the consent, by its six words: month and day of its first day,
  *   month and day of its last, both included; its lowest temperature, 4..20
@@ -131,6 +133,8 @@ extern "C" {
 #define PEWGULL_WORKS_LENGTH 260
 #define PEWGULL_LINE_LENGTH 264
 #define PEWGULL_BUILT_LENGTH 252
+#define PEWGULL_PRICE_CHOOSE_LENGTH 280
+#define PEWGULL_PRICE_EXAMINE_LENGTH 292
 
 /* Length of a sweep's state, in bytes. */
 #define PEWGULL_STATE_LENGTH 240
@@ -159,8 +163,12 @@ extern "C" {
 /* Bytes that pewgull_built writes, and the least length of its page. */
 #define PEWGULL_BUILT_PAGE 8
 
+/* Bytes that pewgull_price_choose and pewgull_price_examine write, and the
+ * least length of their page. */
+#define PEWGULL_PRICE_PAGE 128
+
 /* Numbers that the calls give. */
-#define PEWGULL_SHEET 0          /* a sheet, figures, counts, a load, a target, a works, an index or a sweep */
+#define PEWGULL_SHEET 0          /* a sheet, figures, counts, a load, a target, a works, an index, a price or a sweep */
 #define PEWGULL_PLANT_DATA 1     /* a plant or site figure outside its range, or a line's 0 */
 #define PEWGULL_NO_NUMBER 2      /* a reading not finite, or below zero */
 #define PEWGULL_READING_RANGE 3  /* a head count or a result outside its range */
@@ -182,6 +190,7 @@ extern "C" {
 #define PEWGULL_ADVANCE 19       /* an advance by too many candidates, or from a state that is not valid */
 #define PEWGULL_SPAN 20          /* a span of sludge volume indices that is empty or not within 50..180 */
 #define PEWGULL_BUILT_SIZE 21    /* a built size of 0 */
+#define PEWGULL_TARIFF 22        /* the tariff or its surcharge is not valid */
 #define PEWGULL_UNFINISHED 100   /* no refusal: the sweep has candidates left */
 #define PEWGULL_BAD_LENGTH 101   /* request or state of another length: nothing written */
 #define PEWGULL_BAD_VERSION 102  /* request or state of another version, which is tested first: nothing written */
@@ -437,6 +446,58 @@ uint32_t pewgull_line(const uint8_t *request, size_t request_length,
 uint32_t pewgull_built(const uint8_t *request, size_t request_length,
                        uint8_t *page, size_t page_length,
                        uint64_t *written);
+
+/*
+ * Chooses as pewgull_choose does, and prices the concrete of what is chosen.
+ * The choice goes by volume, whatever the tariff: the cheapest design is not
+ * looked for. The request has PEWGULL_PRICE_CHOOSE_LENGTH bytes:
+ *
+ *   word   bytes      what
+ *   0..55  0..223     the data, as for a choice
+ *   56     224..227   number of bands of the tariff, 1..6
+ *   57..62 228..251   six entries for the upper limits of bands, m3, rising
+ *                     from at least 1; the last band has none
+ *   63..68 252..275   six entries for the prices of bands, 0..1000000 cents
+ *                     per m3
+ *   69     276..279   surcharge, 0..500 thousandths of the sum
+ *
+ * Entries past the number of bands are not looked at, nor is the last band's
+ * limit. Each limit is above the one before it. Cubic metre n of a tank is
+ * charged in the first band whose limit is at least n, the reactor and the
+ * settling tank separately, each from cubic metre 1 on. The surcharge, on the
+ * sum of the two, is rounded up to the cent, once, at the end.
+ *
+ * Gives 0 and writes PEWGULL_PRICE_PAGE bytes, sixteen 64-bit unsigned numbers,
+ * little-endian: the fifteen figures of the sheet in the order of the listing,
+ * the fraction first, and the price with its surcharge, cents, in bytes
+ * 120..127.
+ *
+ * Gives 1, 17, 2 to 4, 14 or 5 where pewgull_choose does, else 22 where the
+ * tariff or the surcharge is not valid, and writes 128 bytes of zeros. Gives 11
+ * for a page of fewer than 128 bytes, or 101 to 103, and writes nothing.
+ */
+uint32_t pewgull_price_choose(const uint8_t *request, size_t request_length,
+                              uint8_t *page, size_t page_length,
+                              uint64_t *written);
+
+/*
+ * Examines as pewgull_examine does, and prices the concrete of the candidate.
+ * The request has PEWGULL_PRICE_EXAMINE_LENGTH bytes:
+ *
+ *   word   bytes      what
+ *   0..58  0..235     the data and the candidate, as for an examination
+ *   59     236..239   number of bands of the tariff, 1..6
+ *   60..65 240..263   six entries for the upper limits of bands, as above
+ *   66..71 264..287   six entries for the prices of bands, as above
+ *   72     288..291   surcharge, 0..500 thousandths of the sum
+ *
+ * Gives 0 and writes the sheet and the price as above. Gives the refusal that
+ * pewgull_examine gives, else 22, and writes 128 bytes of zeros; the rest as
+ * above.
+ */
+uint32_t pewgull_price_examine(const uint8_t *request, size_t request_length,
+                               uint8_t *page, size_t page_length,
+                               uint64_t *written);
 
 /*
  * Starts a sweep for a request of PEWGULL_CHOOSE_LENGTH bytes: a choice that

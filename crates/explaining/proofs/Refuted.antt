@@ -71,3 +71,10 @@ pub term-columns :
     ≡ 16 ∷ 773 ∷ 227 ∷ 24_000 ∷ 23_000 ∷ 23_300 ∷ replicate 15 0
 unfolding steps
 term-columns = refl
+
+-- the figures in another order on the page: Case A's, the verdict ninth, then twenty zeros for the terms
+pub figures-in-order :
+    explainedFigures (explanationFigures (explain caseA readingsA (candidate 300 75 20)))
+    ≡ 26_000 ∷ 26_000 ∷ 0 ∷ 26_000 ∷ 3_779 ∷ 378 ∷ 454 ∷ 4_536 ∷ 0 ∷ replicate 20 0
+unfolding steps
+figures-in-order = refl

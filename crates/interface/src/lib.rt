@@ -22,6 +22,7 @@ ghost use Rattle.rules.specs.DayLog.{loadNumber, loadOf};
 ghost use Rattle.putting.specs.Outcomes.{outcome};
 ghost use Rattle.resuming.specs.States.{startedOn, resumed, AdvancedOn, lookedOn};
 ghost use Rattle.standing.specs.Tanks.{BuiltOn};
+ghost use Rattle.quoting.specs.Quotes.{ChosenAndPriced, examinedAndPriced};
 ghost use Rattle.interface.specs.Calls.{examined, Choosing, worksPut, WorksAsked, LineAsked, figured, explained, countsPut, censused, targetPut, targeted, loaded};
 
 // How many figures a works has: eight sums, and fifteen for each of eight lines.
@@ -391,4 +392,22 @@ pub extern "C" fn pewgull_built(request: &[u8], page: &mut [u8], written: &mut u
     ensures { λ r. ⌜ BuiltOn (now (request .entry)) (now (page .entry)) (outcome r (now (page .exit)) (now (written .exit))) ⌝ }
 {
     standing::built(request, page, written)
+}
+
+// The design chosen for the data of a request, and its price by the request's tariff. A malformed request is answered by 101 to 103, and
+// nothing is written.
+#[no_mangle]
+pub extern "C" fn pewgull_price_choose(request: &[u8], page: &mut [u8], written: &mut u64) -> u32
+    ensures { λ r. ⌜ ChosenAndPriced (now (request .entry)) (now (page .entry)) (outcome r (now (page .exit)) (now (written .exit))) ⌝ }
+{
+    quoting::choose(request, page, written)
+}
+
+// The sheet of the candidate of a request, and its price by the request's tariff. A malformed request is answered by 101 to 103, and
+// nothing is written.
+#[no_mangle]
+pub extern "C" fn pewgull_price_examine(request: &[u8], page: &mut [u8], written: &mut u64) -> u32
+    ensures { λ r. ⌜ outcome r (now (page .exit)) (now (written .exit)) ≡ examinedAndPriced (now (request .entry)) (now (page .entry)) ⌝ }
+{
+    quoting::examine(request, page, written)
 }

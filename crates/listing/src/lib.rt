@@ -38,6 +38,7 @@ pub fn refusal_number(refusal: Refusal) -> u64
         Refusal::Advance => 19,
         Refusal::Span => 20,
         Refusal::BuiltSize => 21,
+        Refusal::Tariff => 22,
     }
 }
 

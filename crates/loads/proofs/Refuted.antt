@@ -9,7 +9,7 @@ use lib.ListN.{length}
 use Rattle.words.specs.Bytes.{word}
 use Rattle.rules.specs.Sums.{sumFrom}
 use Rattle.rules.specs.LabReadings.{thousandths}
-use Rattle.rules.specs.DayLog.{dayCount, dayOf, dayLoad, twoWeekLoad, loadNumber, loadOf}
+use Rattle.rules.specs.DayLog.{dayCount, dayOf, dayLoad, twoWeekLoad, loadNumber, loadOf, loadFigures}
 use Rattle.rules.specs.DayLogOutcome.{LoadOutcome}
 use Rattle.rules.specs.declared.TwoWeekLoad.{TwoWeekLoad}
 use Rattle.rules.specs.declared.LoadAnswer.{LoadAnswer}
@@ -72,3 +72,8 @@ pub wrapping-length :
     × ((n : ℕ) (l : TwoWeekLoad) → LoadOutcome (wordBytes (0x2000_0000 ∷ [])) n l → n ≡ 12)
 unfolding steps wordBytes
 wrapping-length = (refl, λ n l o. right _ _ _ _ (wrapping) o .0)
+
+-- The day before the sum on the page.
+pub sum-then-day : loadFigures (loadIs 14_000_000 2) ≡ 14_000_000 ∷ 2 ∷ []
+unfolding steps
+sum-then-day = refl

@@ -52,3 +52,6 @@ pub use Rattle.loads.proofs.Refuted.{last-of-equal, window-of-13, arrays-as-pai
 -- site's, the plant's own index, a size, the site or the cover left out, and refusals in another order: fields of one record; and that
 -- winning is not monotone in the index
 pub use Rattle.existing.proofs.Refuted.{WrongTanks, wrong-tanks, not-monotone, each-by-its-own}
+-- the price: the metre at a limit charged in the next band, both tanks as one volume, the surcharge per tank, per band or rounded down, 22
+-- before the sheet's refusal, a price with a refusal, and tariffs just valid or just not: fields of one record; a choice by price
+pub use Rattle.pricing.proofs.Refuted.{WrongPrices, wrong-prices, case-A-priced, chosen-by-price}

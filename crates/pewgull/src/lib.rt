@@ -11,16 +11,18 @@ use rules::Explanation;
 use rules::IndexSpan;
 use rules::LoadAnswer;
 use rules::Plant;
+use rules::PriceAnswer;
 use rules::Readings;
 use rules::Split;
 use rules::TargetAnswer;
+use rules::Tariff;
 use rules::Works;
 use rules::Written;
 ghost use mathlib.Core.Path.{_≡_};
 ghost use Rattle.rules.specs.Examining.{examine};
 ghost use Rattle.rules.specs.Choosing.{Chosen};
 ghost use Rattle.rules.specs.Explaining.{explain};
-ghost use Rattle.rules.specs.Answers.{answerNumber, answerSheet, targetNumber, targetValue, writtenNumber, writtenCount, builtNumber, builtIndex};
+ghost use Rattle.rules.specs.Answers.{answerNumber, answerSheet, targetNumber, targetValue, writtenNumber, writtenCount, builtNumber, builtIndex, priceNumber, priceSheet, priceValue};
 ghost use Rattle.rules.specs.Explanations.{explanationNumber, explanationFigures};
 ghost use Rattle.rules.specs.Consent.{targetOn};
 ghost use Rattle.rules.specs.TargetOutcome.{TargetOutcome};
@@ -34,6 +36,8 @@ ghost use Rattle.rules.specs.Works.{WorksChosen, worksNumber};
 ghost use Rattle.rules.specs.WorksOutcome.{WorksOutcome, LineOutcome, WorksColumns, LineColumns};
 ghost use Rattle.rules.specs.Existing.{BuiltAnswered};
 ghost use Rattle.rules.specs.ExistingOutcome.{BuiltOutcome};
+ghost use Rattle.rules.specs.Price.{examinePriced, ChosenPriced};
+ghost use Rattle.rules.specs.PriceOutcome.{PricedExamined, PricedChosen, PriceColumns};
 ghost use Rattle.listing.specs.Pages.{Writes};
 
 // Demands 1 and 2: the complete sheet of a candidate, or the one refusal that is due.
@@ -96,6 +100,29 @@ pub fn built(plant: Plant, readings: Readings, existing: Existing, span: IndexSp
     ensures numbered { λ r. ⌜ BuiltOutcome plant readings existing span (builtNumber r) (builtIndex r) ⌝ }
 {
     existing::built(plant, readings, existing, span)
+}
+
+// The design chosen and the price of its two tanks. Demand 3 speaks of the choice, which knows no price.
+pub fn choose_priced(plant: Plant, readings: Readings, tariff: Tariff) -> PriceAnswer
+    ensures { λ r. ⌜ ChosenPriced plant readings tariff r ⌝ }
+    ensures columns { λ r. ⌜ PriceColumns plant readings r ⌝ }
+    ensures numbered { λ r. ⌜ PricedChosen plant readings tariff (priceNumber r) (priceSheet r) (priceValue r) ⌝ }
+{
+    pricing::choose(plant, readings, tariff)
+}
+
+// The sheet of a candidate and the price of its two tanks.
+pub fn examine_priced(
+    plant: Plant,
+    readings: Readings,
+    candidate: Candidate,
+    tariff: Tariff,
+) -> PriceAnswer
+    ensures { λ r. ⌜ r ≡ examinePriced plant readings candidate tariff ⌝ }
+    ensures columns { λ r. ⌜ PriceColumns plant readings r ⌝ }
+    ensures numbered { λ r. ⌜ PricedExamined plant readings candidate tariff (priceNumber r) (priceSheet r) (priceValue r) ⌝ }
+{
+    pricing::examine(plant, readings, candidate, tariff)
 }
 
 // The lowest nitrate target in force on a day, for any terms of a consent and any date, or that no term runs.

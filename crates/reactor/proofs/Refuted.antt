@@ -51,6 +51,7 @@ pub record Refuted : Type 0 where
   -- the rise from 14 degrees on; the safety factor of 6,000 at 5,999; three steps with the solids of two
   pub rise-from-14 : Differ (risenCapacity 130 13) (risenCapacity 130 12)
   pub factor-early : Differ (safetyFactor 5_999) (safetyFactor 6_000)
+  pub step-feed-by-uptake : Differ (capacity (Process.StepFeed Steps.Two) 500 12 9_524) (capacity Process.Simultaneous 500 12 9_524)
   pub three-as-two : Differ (reactorSolids (Process.StepFeed Steps.Three) 3_779) (reactorSolids (Process.StepFeed Steps.Two) 3_779)
 
 pub refuted : Refuted
@@ -89,5 +90,6 @@ refuted =
       rise-everywhere = eqb-false _ _ refl;
       rise-from-14 = eqb-false _ _ refl;
       factor-early = eqb-false _ _ refl;
+      step-feed-by-uptake = eqb-false _ _ refl;
       three-as-two = eqb-false _ _ refl;
     }

@@ -1,4 +1,4 @@
-// Arithmetic that several steps share: a quotient rounded up, a difference held at 0, the larger of two, a range.
+// Arithmetic that several steps share: a quotient rounded up, a difference held at 0, the larger of two, a range, a wider number.
 ghost use mathlib.Core.Path.{_≡_};
 ghost use Prim.Native.Nat.{_+_, _-_, _^_, _≤_, _<_, max};
 ghost use Rattle.rules.specs.Rounding.{up};
@@ -31,4 +31,11 @@ pub fn within(least: u32, most: u32, n: u32) -> bool
     ensures { λ r. ⌜ r ≡ within least most n ⌝ }
 {
     (least <= n) & (n <= most)
+}
+
+// A number of 32 bits as one of 64.
+pub fn wide(n: u32) -> u64
+    ensures { λ r. ⌜ (r ≡ n) × (r ≤ 4_294_967_295) ⌝ }
+{
+    n as u64
 }

@@ -37,6 +37,7 @@ pub mod LineOutcomes
 pub mod SweepOrder
 pub mod BestLaws
 pub mod ExistingLaws
+pub mod PriceLaws
 pub mod ByBod
 pub mod ByCod
 pub mod Numeral

@@ -70,6 +70,7 @@ small n =
       | Refusal.Advance ↦ tt
       | Refusal.Span ↦ tt
       | Refusal.BuiltSize ↦ tt
+      | Refusal.Tariff ↦ tt
     ]
 
 pub refusal-number-between : (n : Refusal) → Between 1 31 (refusalNumber n)

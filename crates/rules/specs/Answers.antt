@@ -1,6 +1,6 @@
 -- Document 01, "Numbered answers": the paper's number and values for each case of an answer. Assumes nothing.
 use Prim.Native.Nat.{ℕ}
-use mathlib.Core.List.{List, [], _∷_}
+use mathlib.Core.List.{List, [], _∷_, _++_}
 use Rattle.rules.specs.declared.Sheet.{Sheet}
 use Rattle.rules.specs.declared.Refusal.{Refusal}
 use Rattle.rules.specs.declared.Verdict.{Verdict}
@@ -10,6 +10,7 @@ use Rattle.rules.specs.declared.Written.{Written}
 use Rattle.rules.specs.declared.TargetAnswer.{TargetAnswer}
 use Rattle.rules.specs.declared.Progress.{Progress}
 use Rattle.rules.specs.declared.BuiltAnswer.{BuiltAnswer}
+use Rattle.rules.specs.declared.PriceAnswer.{PriceAnswer}
 
 -- the paper's number of each refusal
 abbrev pub refusalNumber : Refusal → ℕ
@@ -34,6 +35,7 @@ refusalNumber Refusal.Lines = 18
 refusalNumber Refusal.Advance = 19
 refusalNumber Refusal.Span = 20
 refusalNumber Refusal.BuiltSize = 21
+refusalNumber Refusal.Tariff = 22
 
 -- a sheet of zeros
 unfoldable pub emptySheet : Sheet
@@ -141,3 +143,20 @@ unfoldable pub builtIndex : BuiltAnswer → ℕ
 builtIndex BuiltAnswer.Held = 0
 builtIndex (BuiltAnswer.Lost index) = index
 builtIndex (BuiltAnswer.Refused n) = 0
+
+-- the number, the sheet and the price of a priced answer: 0, the sheet and its price, or the refusal's number, a sheet of zeros and 0
+unfoldable pub priceNumber : PriceAnswer → ℕ
+priceNumber (PriceAnswer.Priced s) = 0
+priceNumber (PriceAnswer.Refused n) = refusalNumber n
+
+unfoldable pub priceSheet : PriceAnswer → Sheet
+priceSheet (PriceAnswer.Priced s) = s .sheet
+priceSheet (PriceAnswer.Refused n) = emptySheet
+
+unfoldable pub priceValue : PriceAnswer → ℕ
+priceValue (PriceAnswer.Priced s) = s .price
+priceValue (PriceAnswer.Refused n) = 0
+
+-- the figures of a priced answer: those of the sheet in the listing's order, then the price
+abbrev pub priceFigures : PriceAnswer → List ℕ
+priceFigures a = sheetFigures (priceSheet a) ++ (priceValue a ∷ [])

@@ -40,6 +40,16 @@ mostLines = 8
 abbrev pub mostAdvance : ℕ
 mostAdvance = 1_000
 
+-- the bands of a tariff, a cubic metre's price in cents, and the surcharge in thousandths
+abbrev pub mostBands : ℕ
+mostBands = 6
+
+abbrev pub mostPrice : ℕ
+mostPrice = 1_000_000
+
+abbrev pub mostSurcharge : ℕ
+mostSurcharge = 500
+
 -- f, thousandths
 abbrev pub leastFraction : ℕ
 leastFraction = 200
@@ -117,6 +127,10 @@ mostReactorSolids = 16_400
 -- V, l/m3
 abbrev pub mostSludgeVolume : ℕ
 mostSludgeVolume = 679
+
+-- the reactor volume, m3
+abbrev pub mostReactor : ℕ
+mostReactor = 40_000_000
 
 -- A, m2; H, mm; the settling volume, m3
 abbrev pub mostSurface : ℕ

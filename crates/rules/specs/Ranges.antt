@@ -2,7 +2,7 @@
 -- and of the grid are the tests of 1, 17, 14 and 6, no more and no less (proofs/RangeFacts.antt); accepted concentrations are
 -- in theirs (proofs/AcceptedData.antt). Assumes nothing.
 use Prim.Native.Nat.{ℕ, _≤_}
-use Rattle.rules.specs.Limits.{leastTemperature, leastTermTemperature, mostTemperature, leastIndex, mostIndex, leastNitrateTarget, mostNitrateTarget, leastFraction, mostFraction, leastRatio, mostRatio, leastTime, mostTime, mostAge, mostNitrogen, mostRemoves, mostDose, mostRemovedByDose, mostSludge, mostMass, leastSolids, mostSolids, mostSludgeVolume, mostSurface, leastDepth, mostDepth, mostSettlingVolume, mostFigure}
+use Rattle.rules.specs.Limits.{leastTemperature, leastTermTemperature, mostTemperature, leastIndex, mostIndex, leastNitrateTarget, mostNitrateTarget, leastFraction, mostFraction, leastRatio, mostRatio, leastTime, mostTime, mostAge, mostNitrogen, mostRemoves, mostDose, mostRemovedByDose, mostSludge, mostMass, leastSolids, mostSolids, mostSludgeVolume, mostReactor, mostSurface, leastDepth, mostDepth, mostSettlingVolume, mostFigure}
 use lib.Dec.{T}
 use Rattle.rules.specs.Consent.{consentValid}
 use Rattle.rules.specs.declared.Plant.{Plant}
@@ -98,3 +98,8 @@ pub record SheetBounds (s : Sheet) : Type 0 where
   pub total : s .total ≤ mostFigure
   pub oxygen : s .oxygen ≤ mostFigure
   pub transfer : s .transfer ≤ mostFigure
+
+-- limits of the two volumes of a sheet
+pub record VolumeBounds (s : Sheet) : Type 0 where
+  pub reactor : s .reactor ≤ mostReactor
+  pub settling : s .settling ≤ mostSettlingVolume

@@ -270,6 +270,7 @@ pub enum Refusal {
     Advance,
     Span,
     BuiltSize,
+    Tariff,
 }
 
 // What a list of rules says: all of them are kept, or the refusal of the first that is broken.
@@ -431,6 +432,39 @@ pub struct IndexSpan {
 pub enum BuiltAnswer {
     Held,
     Lost(u32),
+    Refused(Refusal),
+}
+
+// The most bands of a tariff.
+pub const MOST_BANDS: usize = 6;
+
+// The most that a cubic metre costs, cents, and the largest surcharge, thousandths.
+pub const MOST_PRICE: u32 = 1_000_000;
+
+pub const MOST_SURCHARGE: u32 = 500;
+
+// What concrete costs by the cubic metre: as many bands as the count says, each with an upper limit and a price; the last of them has no
+// limit. Entries past the count are not looked at.
+pub struct Tariff {
+    pub count: u32,
+    // m3
+    pub limits: [u32; MOST_BANDS],
+    // cents per m3
+    pub prices: [u32; MOST_BANDS],
+    // thousandths of the sum
+    pub surcharge: u32,
+}
+
+// A sheet and what its two tanks cost.
+pub struct PricedSheet {
+    pub sheet: Sheet,
+    // cents
+    pub price: u64,
+}
+
+// What a price is answered with: a sheet and its price, or a refusal.
+pub enum PriceAnswer {
+    Priced(PricedSheet),
     Refused(Refusal),
 }
 

@@ -27,13 +27,6 @@ ghost use Rattle.rules.specs.Lines.{sharesTo, sharesPositive, splitValid, lineO
 ghost use Rattle.rules.specs.Works.{answerVerdict, firstRefused, sumsOf, lineSheet, noSums, refusedWorks, worksOf, WorksChosen, worksFigures};
 ghost use Rattle.works.specs.Entries.{answerAt, worksCount, mostShares, SumsBounds, sumsWith, LinesChosen, SheetsBounded};
 
-// A share as a wider number.
-fn wide(share: u32) -> u64
-    ensures { λ r. ⌜ (r ≡ share) × (r ≤ 4_294_967_295) ⌝ }
-{
-    share as u64
-}
-
 // The shares of the first lines added up.
 fn shares_to(split: Split, lines: u32) -> u64
     requires { ⌜ lines ≤ mostLines ⌝ }
@@ -42,7 +35,7 @@ fn shares_to(split: Split, lines: u32) -> u64
     let shares = split.shares;
     let mut sum = 0u64;
     'line: for i in 0..lines {
-        sum = sum + wide(shares[i as usize]);
+        sum = sum + rounding::wide(shares[i as usize]);
     }
     sum
 }

@@ -1,10 +1,11 @@
 //! What each call of the interface answers, by the reference.
 
-use crate::request::{candidate, decode, decode_built, decode_state, decode_target, decode_works};
-use crate::request::{words_of, CandidateWords, CHOOSE_LENGTH, EXAMINE_LENGTH, LINE_LENGTH};
+use crate::request::{candidate, decode, decode_built, decode_price, decode_state, decode_target};
+use crate::request::{decode_works, words_of, CandidateWords, CHOOSE_LENGTH, EXAMINE_LENGTH};
+use crate::request::{LINE_LENGTH, PRICE_CHOOSE_LENGTH, PRICE_EXAMINE_LENGTH};
 use crate::request::{STATE_LENGTH, WORKS_LENGTH};
 use reference::stages::{InTerm, Stages};
-use reference::{listing, Answer, Progress, Sheet, Sweep};
+use reference::{listing, Answer, Priced, Progress, Sheet, Sweep};
 
 pub const SHORT_PAGE: u32 = reference::refusal::SHORT_PAGE as u32;
 /// An advance that leaves its sweep unfinished.
@@ -23,9 +24,10 @@ pub const LOAD_PAGE: usize = 16;
 pub const TARGET_PAGE: usize = 8;
 /// Bytes that a works writes: eight sums, and the sheets of eight lines.
 pub const WORKS_PAGE: usize = 8 * (8 + 8 * 15);
-
 /// Bytes that built tanks take.
 pub const BUILT_PAGE: usize = 8;
+/// Bytes that a price takes: the figures of the sheet, then the price.
+pub const PRICE_PAGE: usize = 8 * (15 + 1);
 
 /// The call's number and the bytes it writes at the start of the page.
 #[derive(Clone, Debug, PartialEq, Eq)]
@@ -208,6 +210,42 @@ pub fn built(request: &[u8], page_length: usize) -> Outcome {
     match reference::built(&data.plant, &data.readings, &data.existing, &data.span) {
         Err(number) => put(u32::from(number), &[0]),
         Ok(lost) => put(0, &[lost.map_or(0, u64::from)]),
+    }
+}
+
+/// The figures of the sheet and its price, or a refusal and zeros.
+pub fn price_page(priced: &Priced) -> Outcome {
+    let mut figures = priced.answer.sheet().figures().to_vec();
+    figures.push(priced.price);
+    put(u32::from(priced.answer.number()), &figures)
+}
+
+/// The choice and its price.
+pub fn price_choose(request: &[u8], page_length: usize) -> Outcome {
+    match decode_price(request, PRICE_CHOOSE_LENGTH) {
+        Err(fault) => nothing(fault),
+        Ok(_) if page_length < PRICE_PAGE => nothing(SHORT_PAGE),
+        Ok((data, tariff)) => {
+            let priced = reference::price_choose(&data.plant, &data.readings, &tariff);
+            price_page(&priced)
+        }
+    }
+}
+
+/// The candidate examined and its price.
+pub fn price_examine(request: &[u8], page_length: usize) -> Outcome {
+    match decode_price(request, PRICE_EXAMINE_LENGTH) {
+        Err(fault) => nothing(fault),
+        Ok(_) if page_length < PRICE_PAGE => nothing(SHORT_PAGE),
+        Ok((data, tariff)) => {
+            let (plant, readings) = (&data.plant, &data.readings);
+            price_page(&reference::price_examine(
+                plant,
+                readings,
+                data.candidate,
+                &tariff,
+            ))
+        }
     }
 }
 

@@ -1,5 +1,6 @@
 //! A request as words, its bytes, and decoding for the reference.
 
+use reference::price::MOST_BANDS;
 use reference::works::MOST_LINES;
 use reference::*;
 use std::array::from_fn;
@@ -65,8 +66,6 @@ pub const LINE_COUNT: usize = DATA_WORDS;
 pub const SHARES: usize = LINE_COUNT + 1;
 /// The line asked for, after the split.
 pub const LINE: usize = SHARES + MOST_LINES;
-/// Words of the longest request.
-const MOST_WORDS: usize = LINE + 1;
 
 /// The state of a sweep: after the data the number of candidates asked for so
 /// far, then the best so far, three zeros where there is none yet.
@@ -86,6 +85,17 @@ pub const LEAST_OF_SPAN: usize = BUILT_REACTOR + 5;
 pub const MOST_OF_SPAN: usize = BUILT_REACTOR + 6;
 /// Words of a request for built tanks.
 pub const BUILT_WORDS: usize = MOST_OF_SPAN + 1;
+
+/// Words of a tariff, counted from its first: the number of its bands, six limits,
+/// six prices, and the surcharge. It comes after the data of a choice, or after the
+/// candidate of an examination.
+pub const BAND_COUNT: usize = 0;
+pub const LIMITS: usize = BAND_COUNT + 1;
+pub const PRICES: usize = LIMITS + MOST_BANDS;
+pub const SURCHARGE: usize = PRICES + MOST_BANDS;
+pub const TARIFF_WORDS: usize = SURCHARGE + 1;
+/// Words of the longest request, to price a candidate.
+const MOST_WORDS: usize = WORDS + TARIFF_WORDS;
 
 /// A candidate as its words.
 pub type CandidateWords = [u32; CANDIDATE_WORDS];
@@ -166,6 +176,9 @@ pub const LINE_LENGTH: usize = 4 * (LINE + 1);
 pub const STATE_LENGTH: usize = 4 * STATE_WORDS;
 /// Bytes of a request for built tanks.
 pub const BUILT_LENGTH: usize = 4 * BUILT_WORDS;
+/// Bytes of a request to price the choice, and to price a candidate.
+pub const PRICE_CHOOSE_LENGTH: usize = CHOOSE_LENGTH + 4 * TARIFF_WORDS;
+pub const PRICE_EXAMINE_LENGTH: usize = EXAMINE_LENGTH + 4 * TARIFF_WORDS;
 
 /// Words of a request for a target: version, consent, and the date asked for.
 pub const ASKED_MONTH: usize = 2 + MOST_TERMS * TERM_WORDS;
@@ -280,6 +293,16 @@ impl Request {
         bytes
     }
 
+    /// The request to price the choice: the data, then the tariff.
+    pub fn price_choose_bytes(&self, tariff: &Tariff) -> Vec<u8> {
+        [self.choose_bytes(), tariff_bytes(tariff)].concat()
+    }
+
+    /// The request to price the candidate: the data, the candidate, then the tariff.
+    pub fn price_examine_bytes(&self, tariff: &Tariff) -> Vec<u8> {
+        [self.examine_bytes(), tariff_bytes(tariff)].concat()
+    }
+
     /// The words of the candidate.
     pub fn candidate_words(&self) -> CandidateWords {
         from_fn(|place| self.get(FRACTION + place))
@@ -288,6 +311,15 @@ impl Request {
     pub fn decoded(&self) -> Result<Decoded, u32> {
         decode(&self.examine_bytes(), EXAMINE_LENGTH)
     }
+}
+
+/// The bytes of a tariff.
+fn tariff_bytes(tariff: &Tariff) -> Vec<u8> {
+    let mut words = vec![tariff.count];
+    words.extend(tariff.limits);
+    words.extend(tariff.prices);
+    words.push(tariff.surcharge);
+    words.iter().flat_map(|word| word.to_le_bytes()).collect()
 }
 
 /// Bits of the f32 nearest to a number of thousandths.
@@ -534,4 +566,30 @@ pub fn decode_built(bytes: &[u8]) -> Result<DecodedBuilt, u32> {
             most: words[MOST_OF_SPAN],
         },
     })
+}
+
+/// A tariff from its words.
+fn tariff(words: &[u32]) -> Tariff {
+    Tariff {
+        count: words[BAND_COUNT],
+        limits: from_fn(|place| words[LIMITS + place]),
+        prices: from_fn(|place| words[PRICES + place]),
+        surcharge: words[SURCHARGE],
+    }
+}
+
+/// A request for a price, of the length of a choice's or of a candidate's, or the
+/// number of its fault. The candidate of a request to choose is zeros.
+pub fn decode_price(bytes: &[u8], length: usize) -> Result<(Decoded, Tariff), u32> {
+    let words = words(bytes, length)?;
+    let (plant, readings) = data(&words)?;
+    let end = length / 4;
+    let start = end - TARIFF_WORDS;
+    let candidate_words = words[..start].get(FRACTION..WORDS).unwrap_or(&NONE_YET);
+    let decoded = Decoded {
+        plant,
+        readings,
+        candidate: candidate(candidate_words),
+    };
+    Ok((decoded, tariff(&words[start..end])))
 }

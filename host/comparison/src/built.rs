@@ -35,8 +35,8 @@ pub fn page_length(random: &mut Random) -> usize {
 /// Tanks that hold at 99 and at 101 and not at 100, of Case A.
 const NOT_AT_100: [u32; 3] = [3_980, 375, 4_012];
 
-/// Every length up to some bytes more than the longest request, of this version
-/// and of its neighbours, in each way and an unknown one.
+/// Every length up to some bytes more than a line's request, of this version and of
+/// its neighbours, in each way and an unknown one.
 pub fn lengths() -> Vec<Vec<u8>> {
     let mut requests = Vec::new();
     for version in [EARLIER_VERSION, NEWEST_VERSION, LATER_VERSION] {

@@ -17,6 +17,8 @@ pub enum Operation {
     Works,
     Line,
     Built,
+    PriceChoose,
+    PriceExamine,
 }
 
 /// What the library answers: number, count and page.
@@ -39,6 +41,8 @@ fn call(operation: Operation, request: &[u8], page_length: usize) -> Given {
         Operation::Works => library::works(request, page),
         Operation::Line => library::line(request, page),
         Operation::Built => library::built(request, page),
+        Operation::PriceChoose => library::price_choose(request, page),
+        Operation::PriceExamine => library::price_examine(request, page),
     };
     Given {
         number,
@@ -58,6 +62,8 @@ pub fn expected(operation: Operation, request: &[u8], page_length: usize) -> Out
         Operation::Works => model::works(request, page_length),
         Operation::Line => model::line(request, page_length),
         Operation::Built => model::built(request, page_length),
+        Operation::PriceChoose => model::price_choose(request, page_length),
+        Operation::PriceExamine => model::price_examine(request, page_length),
     }
 }
 
@@ -72,7 +78,7 @@ pub fn hex(bytes: &[u8]) -> String {
 }
 
 /// The bytes as numbers of eight bytes each, the lowest byte first.
-fn numbers(bytes: &[u8]) -> Vec<u64> {
+pub fn numbers(bytes: &[u8]) -> Vec<u64> {
     let number = |eight: &[u8]| eight.iter().rev().fold(0, |n, b| n << 8 | u64::from(*b));
     bytes.chunks_exact(8).map(number).collect()
 }
@@ -166,7 +172,7 @@ pub fn listed(call: fn(&[u8], &mut [u8]) -> (u32, u64), request: &[u8]) -> (u32,
 }
 
 /// The figures of a sheet's listing.
-fn figures(listing: &[u8]) -> Vec<u64> {
+pub fn figures(listing: &[u8]) -> Vec<u64> {
     let text = String::from_utf8_lossy(listing);
     let figure = |line: &str| line.split(' ').nth(1)?.parse().ok();
     text.lines().filter_map(figure).collect()

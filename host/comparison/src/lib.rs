@@ -6,6 +6,7 @@ pub mod compare;
 pub mod counts;
 pub mod guarded;
 pub mod logs;
+pub mod prices;
 pub mod requests;
 pub mod stack;
 pub mod sweep_calls;

@@ -2,6 +2,7 @@
 
 use crate::compare::Operation;
 use crate::logs;
+use crate::prices;
 use crate::targets;
 use crate::works;
 use cases::built;
@@ -158,6 +159,9 @@ pub fn any(random: &mut Random, tanks: &OnLines, operation: Operation) -> Vec<u8
             works::bytes(random, operation, &works)
         }
         Operation::Built => built::random(random, request).bytes(),
+        Operation::PriceChoose | Operation::PriceExamine => {
+            prices::bytes(random, operation, request)
+        }
     };
     if random.one_in(32) {
         damaged_length(random, bytes)

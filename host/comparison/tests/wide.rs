@@ -2,12 +2,15 @@
 
 #[path = "wide/built.rs"]
 mod built;
+#[path = "wide/prices.rs"]
+mod prices;
 #[path = "wide/sweeps.rs"]
 mod sweeps;
 
 use cases::built::{Asked, AMPLE};
 use cases::groups;
 use cases::random::Random;
+use cases::request::Request;
 use cases::tanks::OnLines;
 use comparison::cod;
 use comparison::compare::{agree, compare, compare_census, compare_lines, expected, Operation};
@@ -50,9 +53,10 @@ fn random_requests(operation: Operation, seed: u64, count: usize) -> Found {
     })
 }
 
-/// The numbers of a day log, of a split, of an advance and of built tanks.
-const OF_ONE_CALL: [u32; 7] = [
-    DAY_LOG, DAY_VALUE, LINES, ADVANCE, UNFINISHED, SPAN, BUILT_SIZE,
+/// The numbers of a day log, of a split, of an advance, of built tanks and of a
+/// tariff.
+const OF_ONE_CALL: [u32; 8] = [
+    DAY_LOG, DAY_VALUE, LINES, ADVANCE, UNFINISHED, SPAN, BUILT_SIZE, TARIFF,
 ];
 
 /// So many answers of each number but these, and but those that one call alone
@@ -507,31 +511,40 @@ fn differences_are_reported() {
     assert!(agree(Operation::Examine, &bytes, 512, &refused).is_err());
 }
 
+const FOUR_TERMS: [[u32; 6]; 4] = [[11, 1, 3, 31, 11, 13_000]; 4];
+
+/// Case A, the same in vertical flow, with four terms, and with these in the COD way.
+fn plants_on_stacks() -> [Request; 4] {
+    let plant = cases::plants::case_a();
+    let vertical = plant.with(cases::request::TANK_FLOW, 1);
+    let seasons = plant.with_terms(&FOUR_TERMS);
+    let by_cod = seasons.with(cases::request::WAY, cases::request::BY_COD);
+    [plant, vertical, seasons, by_cod]
+}
+
 /// The stack of each call, as the header and the README state it.
 #[test]
 fn stack_as_stated() {
-    let plant = cases::plants::case_a();
-    let vertical = plant.with(cases::request::TANK_FLOW, 1);
-    let four = [[11, 1, 3, 31, 11, 13_000]; 4];
-    let seasons = plant.with_terms(&four);
     let log = logs::log(&[(0, 0); 3_660]);
-    let target = targets::request(4, &four, (2, 29));
-    let by_cod = seasons.with(cases::request::WAY, cases::request::BY_COD);
+    let target = targets::request(4, &FOUR_TERMS, (2, 29));
     let eight = works::equal(8);
-    for request in [plant, vertical, seasons, by_cod] {
+    for request in plants_on_stacks() {
         let (examine, choose) = (request.examine_bytes(), request.choose_bytes());
         let built = Asked::of(request, AMPLE, 50, 180).bytes();
         let (works, line) = (request.works_bytes(&eight), request.line_bytes(&eight, 8));
+        let [price_choose, price_examine] = comparison::prices::requests_of(&request);
         for (call, bytes, stated) in [
-            (library::CHOOSE, &choose, 16_000),
+            (library::CHOOSE, &choose, 9_000),
             (library::EXAMINE, &examine, 3_000),
             (library::EXPLAIN, &examine, 3_000),
             (library::CENSUS, &choose, 3_000),
             (library::LOAD, &log, 3_000),
             (library::TARGET, &target, 3_000),
-            (library::WORKS, &works, 21_000),
-            (library::LINE, &line, 17_000),
+            (library::WORKS, &works, 14_000),
+            (library::LINE, &line, 10_000),
             (library::BUILT, &built, 3_000),
+            (library::PRICE_CHOOSE, &price_choose, 10_000),
+            (library::PRICE_EXAMINE, &price_examine, 3_000),
             (library::SWEEP_START, &choose, 3_000),
         ] {
             let (_, taken) = stack_of(call, bytes, &mut [0; WORKS_PAGE]);
@@ -540,7 +553,7 @@ fn stack_as_stated() {
         let last = grid_number(&request) - library::ADVANCE_MOST;
         for number in [0, 40_000, last] {
             let state = request.state_bytes(number, cases::request::NONE_YET);
-            within_stated(stack_of_advance(&state).1, 17_000);
+            within_stated(stack_of_advance(&state).1, 10_000);
             within_stated(stack_of_examination(&state).1, 3_000);
         }
     }

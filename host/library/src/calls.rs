@@ -69,6 +69,14 @@ calls! {
     /// the smallest that they cannot hold, or of 0.
     built, BUILT: pewgull_built;
 
+    /// Chooses as `choose` does for a request of `PRICE_CHOOSE_LENGTH` bytes,
+    /// and writes the `PRICE_PAGE` bytes of the sheet and its price.
+    price_choose, PRICE_CHOOSE: pewgull_price_choose;
+
+    /// Examines as `examine` does for a request of `PRICE_EXAMINE_LENGTH`
+    /// bytes, and writes the `PRICE_PAGE` bytes of the sheet and its price.
+    price_examine, PRICE_EXAMINE: pewgull_price_examine;
+
     /// Starts a sweep for a request of `CHOOSE_LENGTH` bytes and writes the
     /// `STATE_LENGTH` bytes of its state; nothing where the data are refused.
     sweep_start, SWEEP_START: pewgull_sweep_start;

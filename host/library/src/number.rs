@@ -42,6 +42,7 @@ numbers! {
     ADVANCE 19 "advance";
     SPAN 20 "span";
     BUILT_SIZE 21 "built size";
+    TARIFF 22 "tariff";
     UNFINISHED 100 "unfinished";
     BAD_LENGTH 101 "bad length";
     BAD_VERSION 102 "bad version";
@@ -49,7 +50,8 @@ numbers! {
 }
 
 /// Whether a number says that the data, the candidate, the day log, the date,
-/// the split, the advance, the span or the existing tanks are refused.
+/// the split, the advance, the span, the existing tanks or the tariff are
+/// refused.
 pub fn is_refusal(number: u32) -> bool {
     number != SHEET && number != SHORT_PAGE && number < UNFINISHED
 }

@@ -1,6 +1,7 @@
 //! A request and its bytes: 32-bit numbers, little-endian, without padding.
 
 use crate::built::{self, Existing, Span, BUILT_WORDS};
+use crate::price::{Tariff, TARIFF_WORDS};
 use crate::terms::{Terms, TERMS_WORDS};
 use crate::works::{Split, SPLIT_WORDS};
 
@@ -30,6 +31,10 @@ pub const WORKS_LENGTH: usize = 4 * (DATA_WORDS + SPLIT_WORDS);
 pub const LINE_LENGTH: usize = WORKS_LENGTH + 4;
 /// Bytes of a request for existing tanks.
 pub const BUILT_LENGTH: usize = 4 * (DATA_WORDS + BUILT_WORDS);
+/// Bytes of a request to choose and price.
+pub const PRICE_CHOOSE_LENGTH: usize = 4 * (DATA_WORDS + TARIFF_WORDS);
+/// Bytes of a request to examine and price.
+pub const PRICE_EXAMINE_LENGTH: usize = 4 * (DATA_WORDS + CANDIDATE_WORDS + TARIFF_WORDS);
 
 #[derive(Clone, Copy, Debug, Default, PartialEq, Eq)]
 pub enum Process {
@@ -228,6 +233,26 @@ impl Request {
         let mut bytes = [0; BUILT_LENGTH];
         bytes[..CHOOSE_LENGTH].copy_from_slice(&self.to_choose());
         put(&mut bytes[CHOOSE_LENGTH..], &built::words(existing, span));
+        bytes
+    }
+
+    /// The bytes of a request to choose and to price what is chosen.
+    pub fn to_price_choose(&self, tariff: &Tariff) -> [u8; PRICE_CHOOSE_LENGTH] {
+        let mut bytes = [0; PRICE_CHOOSE_LENGTH];
+        bytes[..CHOOSE_LENGTH].copy_from_slice(&self.to_choose());
+        put(&mut bytes[CHOOSE_LENGTH..], &tariff.words());
+        bytes
+    }
+
+    /// The bytes of a request to examine a candidate and to price it.
+    pub fn to_price_examine(
+        &self,
+        candidate: Candidate,
+        tariff: &Tariff,
+    ) -> [u8; PRICE_EXAMINE_LENGTH] {
+        let mut bytes = [0; PRICE_EXAMINE_LENGTH];
+        bytes[..EXAMINE_LENGTH].copy_from_slice(&self.to_examine(candidate));
+        put(&mut bytes[EXAMINE_LENGTH..], &tariff.words());
         bytes
     }
 

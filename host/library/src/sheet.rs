@@ -38,6 +38,14 @@ pub const LINES: [Line; 15] = [
     line("transfer", "oxygen transfer of the aeration", "g/h"),
 ];
 
+/// The listing of a sheet's figures.
+pub fn listing(figures: &[u64; LINES.len()]) -> String {
+    let lines = LINES.iter().zip(figures);
+    lines
+        .map(|(line, figure)| format!("{} {figure}\n", line.label))
+        .collect()
+}
+
 /// A side of the grid: one of the three numbers of a candidate.
 #[derive(Clone, Copy, Debug)]
 pub struct Side {

@@ -706,7 +706,7 @@ fn numbers_rise_and_have_words() {
     assert_eq!(word(NO_DESIGN), Some("no design"));
     assert_eq!(word(99), None);
     let refusals = ALL.iter().filter(|known| is_refusal(known.number));
-    assert_eq!(refusals.count(), 20);
+    assert_eq!(refusals.count(), 21);
 }
 
 #[test]

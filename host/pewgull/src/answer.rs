@@ -7,10 +7,11 @@ use crate::explanation;
 use crate::json::{self, Member, Value};
 use crate::works;
 use library::number::{self, SHEET};
-use library::sheet::candidates;
+use library::sheet::{candidates, listing};
 use library::{target_from_page, Date, Terms, TARGET_PAGE};
 use library::{Built, Existing, Span, BUILT_PAGE};
 use library::{Candidate, Load, Request, LOAD_PAGE, PAGE_LENGTH};
+use library::{Price, Tariff, PRICE_PAGE};
 use library::{Split, Works, WORKS_PAGE};
 
 /// The library's number, what an answer that is no refusal is called, its
@@ -189,5 +190,30 @@ pub fn built(request: &Request, existing: &Existing, span: &Span) -> Answer {
             remark: Some(built::lost(request, existing, span, index as u32)),
             ..listed(number, format!("lost {index}\n").as_bytes())
         },
+    }
+}
+
+/// The answer of `price`: what the design chosen or a candidate costs; its
+/// sheet is among the members alone.
+pub fn price(request: &Request, candidate: Option<Candidate>, tariff: &Tariff) -> Answer {
+    let mut page = [0; PRICE_PAGE];
+    let (number, _) = match candidate {
+        None => library::price_choose(&request.to_price_choose(tariff), &mut page),
+        Some(candidate) => {
+            let bytes = request.to_price_examine(candidate, tariff);
+            library::price_examine(&bytes, &mut page)
+        }
+    };
+    if number != SHEET {
+        return refused(number);
+    }
+    let Price { sheet, price } = Price::from_page(&page);
+    let text = format!("price {price}\n");
+    Answer {
+        number,
+        kind: "price",
+        members: json::members(&(listing(&sheet) + &text)),
+        text: text.into_bytes(),
+        remark: None,
     }
 }

@@ -3,6 +3,7 @@
 use crate::answer::{self, Answer};
 use crate::built::{ENDS, SIZES};
 use crate::keys::INDEX;
+use crate::price;
 use crate::sweep;
 use crate::values;
 use library::sheet::{Side, GRID};
@@ -27,6 +28,8 @@ pub enum Action {
     Sweep,
     /// One plant, its existing tanks and a span of sludge volume indices
     Built(fn(&Request, &Existing, &Span) -> Answer),
+    /// One plant and one tariff, with a candidate or without
+    Price,
 }
 
 pub struct Form {
@@ -82,6 +85,11 @@ pub const COMMANDS: &[Form] = &[
         about: "says if REACTOR m3, SURFACE m2, DEPTH mm hold every SVI of LEAST..MOST",
         action: Action::Built(answer::built),
     },
+    Form {
+        name: "price",
+        about: "prints the price in cents by a tariff file: of the choice, or of F R H",
+        action: Action::Price,
+    },
 ];
 
 impl Form {
@@ -94,6 +102,7 @@ impl Form {
             Action::Date(_) => "FILE MM-DD",
             Action::Sweep => "FILE [--by N] [--state FILE]",
             Action::Built(_) => "FILE REACTOR SURFACE DEPTH F H LEAST MOST",
+            Action::Price => "FILE TARIFF [F R H]",
         }
     }
 
@@ -139,6 +148,10 @@ impl Form {
                 let (file, existing, span) = self.file_and_tanks(words)?;
                 Ok((Task::Built(call, existing, span), vec![file]))
             }
+            Action::Price => {
+                let (file, options) = self.file_and_tariff(words)?;
+                Ok((Task::Price(options), vec![file]))
+            }
         }
     }
 
@@ -179,6 +192,33 @@ impl Form {
         Ok((file.clone(), existing, span))
     }
 
+    /// FILE TARIFF [F R H].
+    fn file_and_tariff(&self, words: &[OsString]) -> Result<(OsString, price::Options), String> {
+        let (file, tariff, candidate) = match words {
+            [file, tariff] => (file, tariff, None),
+            [file, tariff, fraction, return_ratio, thickening] => {
+                let numbers = [fraction, return_ratio, thickening];
+                (file, tariff, Some(candidate(numbers)?))
+            }
+            _ => {
+                return Err(usage(&format!(
+                    "expected {} {}, a plant file, a tariff file and three numbers or none \
+                     (words given: {})",
+                    self.name,
+                    self.words(),
+                    words.len()
+                )))
+            }
+        };
+        if file == "-" && tariff == "-" {
+            return Err(usage(
+                "FILE and TARIFF are both '-'; expected one of them from standard input at most",
+            ));
+        }
+        let tariff = tariff.clone();
+        Ok((file.clone(), price::Options { tariff, candidate }))
+    }
+
     /// One file or more.
     fn files(&self, words: &[OsString]) -> Result<Vec<OsString>, String> {
         match words.is_empty() {
@@ -201,6 +241,7 @@ pub enum Task {
     Works(fn(&Request, &Split) -> Answer),
     Sweep(sweep::Options),
     Built(fn(&Request, &Existing, &Span) -> Answer, Existing, Span),
+    Price(price::Options),
 }
 
 /// A command with its words.
@@ -373,13 +414,18 @@ fn file_and_candidate(name: &str, words: &[OsString]) -> Result<(OsString, Candi
             words.len()
         )));
     };
-    let [first, second, third] = &GRID;
-    let candidate = Candidate {
+    let candidate = candidate([fraction, return_ratio, thickening])?;
+    Ok((file.clone(), candidate))
+}
+
+/// F R H.
+fn candidate(words: [&OsString; 3]) -> Result<Candidate, String> {
+    let ([first, second, third], [fraction, return_ratio, thickening]) = (&GRID, words);
+    Ok(Candidate {
         fraction: number(first, fraction)?,
         return_ratio: number(second, return_ratio)?,
         thickening: number(third, thickening)?,
-    };
-    Ok((file.clone(), candidate))
+    })
 }
 
 fn number(side: &Side, word: &OsString) -> Result<u32, String> {

@@ -2,7 +2,7 @@
 //! number is the library's: here the term, its line and the figure are only
 //! looked for.
 
-use crate::keys::{Range, TERM_TARGET, TERM_TEMPERATURE};
+use crate::keys::{TERM_TARGET, TERM_TEMPERATURE};
 use crate::plant_file::PlantFile;
 use crate::refusal::headed;
 use crate::values::listed;
@@ -65,16 +65,11 @@ fn wrong(term: &Term) -> impl Iterator<Item = String> {
     [
         wrong_date("first day", term.first),
         wrong_date("last day", term.last),
-        outside("temperature", term.temperature, &TERM_TEMPERATURE),
-        outside("target", term.target, &TERM_TARGET),
+        TERM_TEMPERATURE.outside("temperature", term.temperature),
+        TERM_TARGET.outside("target", term.target),
     ]
     .into_iter()
     .flatten()
-}
-
-fn outside(name: &str, value: u32, range: &Range) -> Option<String> {
-    let (ends, unit) = (range.digits(), range.unit);
-    (!range.holds(value)).then(|| format!("{name} {value}: expected {ends} {unit}"))
 }
 
 fn wrong_date(name: &str, date: Date) -> Option<String> {

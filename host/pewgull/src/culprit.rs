@@ -69,11 +69,7 @@ fn outside(request: &Request) -> Vec<String> {
     let mut lines = Vec::new();
     for key in &KEYS {
         if let Field::Whole(range, at) = &key.field {
-            let value = *at(&mut copy);
-            if !range.holds(value) {
-                let (name, ends, unit) = (key.name, range.digits(), range.unit);
-                lines.push(format!("{name} {value}: expected {ends} {unit}"));
-            }
+            lines.extend(range.outside(key.name, *at(&mut copy)));
         }
     }
     lines

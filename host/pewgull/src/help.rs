@@ -4,6 +4,8 @@ use crate::arguments::COMMANDS;
 use crate::census;
 use crate::keys::{shares_expected, SHARES_WORDS, TERM_TARGET, TERM_TEMPERATURE, TERM_WORDS};
 use crate::keys::{Field, HEADS, INDEX, KEYS, MOST_DOSE_WITHOUT_SLUDGE};
+use crate::tariff_file::{bands_expected, LIMIT_UNIT, PRICE_RANGE, SURCHARGE_RANGE};
+use crate::tariff_file::{BAND, REST, SURCHARGE};
 use crate::values::listed;
 use crate::works::SPLIT;
 use library::number;
@@ -55,10 +57,10 @@ Exit status: 0 an answer; 1 a refusal; 2 a file or usage error; 130 interrupted
 /// What `--help` prints: a screen.
 pub fn short() -> String {
     format!(
-        "{}\n{}--json   prints one JSON object for each file, on a line of its own\n\
-         FILE     a plant file (examples/case-a.plant has every key); - is standard input\n\
+        "{}{}\
+         FILE     a plant file, - is standard input; --json prints a JSON object for each\n\
          {}{STATUS}\
-         Example: pewgull examine examples/case-a.plant 300 75 20\n",
+         Example: pewgull examine examples/case-a.plant 300 75 20 (it has every key)\n",
         usage(),
         commands(),
         grid()
@@ -80,6 +82,7 @@ pub fn manual() -> String {
     text += &works();
     text += &sweep();
     text += &built();
+    text += &price();
     text += &day_log();
     text += "\nThe line of a target\n  \
              target         lowest nitrate target in force that day, mg/m3; 0: no term runs\n";
@@ -173,6 +176,27 @@ fn built() -> String {
         INDEX.unit,
         INDEX.digits(),
         INDEX.unit
+    )
+}
+
+/// The line of a price, the lines of a tariff file, and what is charged.
+fn price() -> String {
+    let (prices, per_metre) = (PRICE_RANGE.digits(), PRICE_RANGE.unit);
+    let (surcharges, unit) = (SURCHARGE_RANGE.digits(), SURCHARGE_RANGE.unit);
+    let left_out = SURCHARGE_RANGE.least;
+    format!(
+        "\nThe line of a price\n  \
+         price            of both tanks, cents; with --json the sheet's figures too\n\
+         The lines of a tariff file: text, # starts a comment\n  \
+         {BAND} LIMIT PRICE upper limit of a band, {LIMIT_UNIT}; price, {prices} {per_metre}\n  \
+         {BAND} {REST} PRICE  the last band, which has no limit\n  \
+         {SURCHARGE} N      on the sum, {surcharges} {unit}; left out: {left_out}\n\
+         {}.\n\
+         Cubic metre n of a tank is charged in the first band whose limit is at least n,\n\
+         reactor and settling tank separately. The surcharge is rounded up to the cent,\n\
+         once, at the end. The design is that of least volume, as choose gives it: the\n\
+         cheapest one is not looked for.\n",
+        bands_expected()
     )
 }
 

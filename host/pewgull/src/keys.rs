@@ -23,6 +23,12 @@ impl Range {
     pub fn digits(&self) -> String {
         format!("{}..{}", self.least, self.most)
     }
+
+    /// What is said of a value that it does not hold.
+    pub fn outside(&self, name: &str, value: u32) -> Option<String> {
+        let (ends, unit) = (self.digits(), self.unit);
+        (!self.holds(value)).then(|| format!("{name} {value}: expected {ends} {unit}"))
+    }
 }
 
 /// Range of a head count.
@@ -288,7 +294,7 @@ impl Key {
 const MOST_WORDS: usize = 8;
 
 /// The only word of a value.
-fn single<'a>(value: &[&'a str]) -> Result<&'a str, String> {
+pub fn single<'a>(value: &[&'a str]) -> Result<&'a str, String> {
     match value {
         [word] => Ok(word),
         [] => Err("the value is missing".to_string()),

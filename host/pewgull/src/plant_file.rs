@@ -1,12 +1,13 @@
 //! A plant file: one `key value` per line, `#` starts a comment.
 
 use crate::keys::{self, Given, KEYS};
-use crate::text_file::{text, Fault, Faults};
+use crate::text_file::{self, Fault};
 use crate::values;
 use library::{Request, MOST_TERMS};
+use std::str::SplitWhitespace;
 
 /// What is expected of a file.
-const EXPECTED: &str = "a plant file";
+pub const EXPECTED: &str = "a plant file";
 
 /// What a plant file holds.
 #[derive(Default)]
@@ -38,36 +39,22 @@ fn read(
     bytes: &[u8],
     fill: fn(&mut PlantFile, &FirstLines) -> Result<(), String>,
 ) -> Result<PlantFile, Vec<Fault>> {
-    let text = text(bytes, EXPECTED).map_err(|fault| vec![fault])?;
-    let mut file = PlantFile::default();
-    let mut first_lines = [None; KEYS.len()];
-    let mut faults = Faults::default();
-    let mut last = 1;
-    for (place, line) in text.lines().enumerate() {
-        last = place + 1;
-        if let Err(what) = read_line(line, last, &mut file, &mut first_lines) {
-            faults.add(last, what);
-        }
-    }
-    if let Err(what) = fill(&mut file, &first_lines) {
-        faults.add(last, what);
-    }
-    faults.none_or(EXPECTED)?;
+    let start = (PlantFile::default(), [None; KEYS.len()]);
+    let end = |(file, first_lines): &mut State| fill(file, first_lines);
+    let (file, _) = text_file::read(bytes, EXPECTED, start, read_line, end)?;
     Ok(file)
 }
 
+/// What is known while the lines are read.
+type State = (PlantFile, FirstLines);
+
 /// Reads one line.
 fn read_line(
-    line: &str,
+    (file, first_lines): &mut State,
     number: usize,
-    file: &mut PlantFile,
-    first_lines: &mut FirstLines,
+    name: &str,
+    words: SplitWhitespace,
 ) -> Result<(), String> {
-    let content = line.split('#').next().unwrap_or_default();
-    let mut words = content.split_whitespace();
-    let Some(name) = words.next() else {
-        return Ok(());
-    };
     let Some(place) = KEYS.iter().position(|key| key.name == name) else {
         return Err(unknown(name));
     };

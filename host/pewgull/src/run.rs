@@ -1,6 +1,6 @@
 //! One command on one file.
 
-use crate::answer::Answer;
+use crate::answer::{self, Answer};
 use crate::arguments::{Command, Task};
 use crate::built;
 use crate::consent;
@@ -9,8 +9,11 @@ use crate::input::{contents, reason};
 use crate::json::{self, Member};
 use crate::load;
 use crate::plant_file::{self, PlantFile};
+use crate::price;
 use crate::refusal;
+use crate::state_file::name_of;
 use crate::sweep::{self, End, Options};
+use crate::tariff_file::{self, TariffFile};
 use crate::text_file::Fault;
 use crate::values::{escaped, grouped};
 use crate::works;
@@ -104,9 +107,8 @@ fn found(command: &Command, file: &OsStr, name: &str) -> Result<Found, Vec<Strin
         Task::Works(call) => {
             let plant = read(file, name, plant_file::parse)?;
             let split = Split::of(&plant.shares);
-            settled(call(&plant.request, &split), name, |number| {
-                works::words(number, &plant)
-            })
+            let words = |number| works::words(number, &plant);
+            settled(call(&plant.request, &split), name, words)
         }
         Task::Sweep(options) => swept(options, command.json, file, name),
         Task::Built(call, existing, span) => {
@@ -114,7 +116,17 @@ fn found(command: &Command, file: &OsStr, name: &str) -> Result<Found, Vec<Strin
             let words = |number| built::words(number, &plant, existing, span);
             settled(call(&plant.request, existing, span), name, words)
         }
+        Task::Price(options) => priced(options, file, name),
     }
+}
+
+/// What comes of the price of a plant by a tariff.
+fn priced(options: &price::Options, file: &OsStr, name: &str) -> Result<Found, Vec<String>> {
+    let (plant, tariff) = read_with_tariff(file, name, &options.tariff)?;
+    let answer = answer::price(&plant.request, options.candidate, &tariff.tariff);
+    settled(answer, name, |number| {
+        price::words(number, &plant, &tariff, options)
+    })
 }
 
 /// What comes of a sweep for the plant of a file.
@@ -199,8 +211,47 @@ fn read(
     name: &str,
     parse: fn(&[u8]) -> Result<PlantFile, Vec<Fault>>,
 ) -> Result<PlantFile, Vec<String>> {
-    let bytes = expected(file, name, "a plant file")?;
+    let bytes = expected(file, name, plant_file::EXPECTED)?;
     parse(&bytes).map_err(|faults| told(&faults, name))
+}
+
+/// Reads and parses a plant file and a tariff file.
+fn read_with_tariff(
+    file: &OsStr,
+    name: &str,
+    tariff: &OsStr,
+) -> Result<(PlantFile, TariffFile), Vec<String>> {
+    let tariff_name = name_of(tariff);
+    let (first, second) = both(
+        expected(file, name, plant_file::EXPECTED),
+        expected(tariff, &tariff_name, tariff_file::EXPECTED),
+    )?;
+    let exchanged = tariff_file::parse(&first).is_ok() && plant_file::parse(&second).is_ok();
+    if exchanged {
+        return Err(vec![format!(
+            "{name}: this is a tariff file, and {tariff_name} is a plant file; \
+             expected the plant file first"
+        )]);
+    }
+    both(
+        plant_file::parse(&first).map_err(|faults| told(&faults, name)),
+        tariff_file::parse(&second).map_err(|faults| told(&faults, &tariff_name)),
+    )
+}
+
+/// What two files hold, or the faults of both.
+fn both<A, B>(
+    first: Result<A, Vec<String>>,
+    second: Result<B, Vec<String>>,
+) -> Result<(A, B), Vec<String>> {
+    match (first, second) {
+        (Ok(first), Ok(second)) => Ok((first, second)),
+        (first, second) => {
+            let mut faults = first.err().unwrap_or_default();
+            faults.extend(second.err().unwrap_or_default());
+            Err(faults)
+        }
+    }
 }
 
 /// Reads a day log, or makes it from a text file.

@@ -1,5 +1,7 @@
 //! A text file that is read line by line, and what is wrong with its lines.
 
+use std::str::SplitWhitespace;
+
 /// Most faults that are told of one file.
 const TOLD: usize = 10;
 
@@ -45,6 +47,37 @@ impl Faults {
             false => Err(self.told),
         }
     }
+}
+
+/// Reads a text file line by line, each with its number, its first word and
+/// the words after that, and then what is due at its end; `#` starts a comment.
+/// The faults come in the order of the lines.
+pub fn read<State>(
+    bytes: &[u8],
+    expected: &str,
+    mut state: State,
+    line: impl Fn(&mut State, usize, &str, SplitWhitespace) -> Result<(), String>,
+    end: impl Fn(&mut State) -> Result<(), String>,
+) -> Result<State, Vec<Fault>> {
+    let text = text(bytes, expected).map_err(|fault| vec![fault])?;
+    let mut faults = Faults::default();
+    let mut last = 1;
+    for (place, content) in text.lines().enumerate() {
+        last = place + 1;
+        let content = content.split('#').next().unwrap_or_default();
+        let mut words = content.split_whitespace();
+        let Some(first) = words.next() else {
+            continue;
+        };
+        if let Err(what) = line(&mut state, last, first, words) {
+            faults.add(last, what);
+        }
+    }
+    if let Err(what) = end(&mut state) {
+        faults.add(last, what);
+    }
+    faults.none_or(expected)?;
+    Ok(state)
 }
 
 /// The file as text. A byte order mark at its start is left out.

@@ -11,7 +11,7 @@ use crate::plant_file::PlantFile;
 use crate::refusal::{self, headed};
 use crate::values::{filled, listed};
 use library::number::{LINES, NO_DESIGN, PLANT_DATA, SHEET};
-use library::sheet::{self, GRID};
+use library::sheet::{listing, GRID};
 use library::{Candidate, Request, Split, Works};
 use library::{LEAST_SHARE, PAGE_LENGTH, SUMS, WHOLE};
 
@@ -24,12 +24,6 @@ pub fn sums(works: &Works) -> String {
 
 /// The listings of its lines, each with its number from 1 on.
 pub fn listings(works: &Works, split: &Split) -> Vec<(u32, String)> {
-    let listing = |figures: &[u64; sheet::LINES.len()]| {
-        let lines = sheet::LINES.iter().zip(figures);
-        lines
-            .map(|(line, figure)| format!("{} {figure}\n", line.label))
-            .collect()
-    };
     let sheets = (1..=split.count).zip(&works.sheets);
     sheets
         .map(|(line, figures)| (line, listing(figures)))

@@ -553,9 +553,9 @@ fn several_files_have_headings_and_the_largest_status() {
 }
 
 #[rustfmt::skip]
-const USAGE_ERRORS: [(&str, &str); 44] = [
-    ("", "no command; expected choose, examine, explain, census, load, target, works, sweep, built or help"),
-    ("chose", "'chose' is no command; expected choose, examine, explain, census, load, target, works, sweep, built or help"),
+const USAGE_ERRORS: [(&str, &str); 53] = [
+    ("", "no command; expected choose, examine, explain, census, load, target, works, sweep, built, price or help"),
+    ("chose", "'chose' is no command; expected choose, examine, explain, census, load, target, works, sweep, built, price or help"),
     ("load --csv", "expected load [--csv] LOG..."),
     ("choose --csv F", "--csv is for the command load alone"),
     ("target --csv F 01-01", "--csv is for the command load alone"),
@@ -592,6 +592,15 @@ const USAGE_ERRORS: [(&str, &str); 44] = [
     ("built F 1 1 1 300 2h 50 60", "thickening time H: '2h' is not a whole number; expected a whole number, 20..25, in"),
     ("built F 1 1 1 300 20 50..60 60", "sludge volume index LEAST: '50..60' is not a whole number; expected a whole number, 50..180, in l/kg"),
     ("built F 1 1 1 300 20 50 4294967296", "sludge volume index MOST: '4294967296' is too large; expected a whole number, 50..180, in l/kg"),
+    ("price", "expected price FILE TARIFF [F R H], a plant file, a tariff file and three numbers or none (words given: 0)"),
+    ("price F", "expected price FILE TARIFF [F R H], a plant file, a tariff file and three numbers or none (words given: 1)"),
+    ("price F T 300", "expected price FILE TARIFF [F R H], a plant file, a tariff file and three numbers or none (words given: 3)"),
+    ("price F T 300 75", "expected price FILE TARIFF [F R H], a plant file, a tariff file and three numbers or none (words given: 4)"),
+    ("price F T 300 75 20 1", "expected price FILE TARIFF [F R H], a plant file, a tariff file and three numbers or none (words given: 6)"),
+    ("price F T 0.3 75 20", "fraction F: '0.3' is not a whole number; expected a whole number, 200..500, in thousandths"),
+    ("price F T 300 75 4294967296", "thickening time H: '4294967296' is too large; expected a whole number, 20..25"),
+    ("price - -", "FILE and TARIFF are both '-'; expected one of them from standard input at most"),
+    ("price --csv F T", "--csv is for the command load alone"),
     ("examine F", "expected examine FILE F R H, one file and three numbers (words given: 1)"),
     ("explain F 300 75", "expected explain FILE F R H"),
     ("examine F 300 75 20 1", "expected examine FILE F R H"),

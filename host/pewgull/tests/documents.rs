@@ -6,7 +6,8 @@ use common::{pewgull, repository};
 use library::number;
 use library::sheet::{candidates, GRID, LINES};
 use library::{TankFlow, COUNTED, LEAST_DAYS, MOST_BOD, MOST_DAYS, MOST_FLOW, MOST_TERMS};
-use library::{ADVANCE_MOST, CHOOSE_LENGTH, STATE_LENGTH};
+use library::{ADVANCE_MOST, CHOOSE_LENGTH, EXAMINE_LENGTH, STATE_LENGTH};
+use library::{LEAST_BANDS, LEAST_LIMIT, MOST_BANDS, PRICE_PAGE};
 use library::{LEAST_LINES, LEAST_SHARE, MOST_LINES, SUMS, WHOLE};
 use library::{LEAST_SIZE, MOST_INDEX};
 use pewgull::arguments::COMMANDS;
@@ -17,6 +18,7 @@ use pewgull::keys::{
     SHARES_WORDS, TERM_TARGET, TERM_TEMPERATURE, TERM_WORDS,
 };
 use pewgull::run::INTERRUPTED;
+use pewgull::tariff_file::{bands_expected, PRICE_RANGE, SURCHARGE_RANGE};
 use pewgull::works::SPLIT;
 use std::fs;
 
@@ -369,6 +371,78 @@ fn existing_tanks() {
     }
 }
 
+/// The words of a tariff after the data, or after a candidate.
+fn tariff_rows(header: &str, first: usize) {
+    let (prices, surcharges) = (PRICE_RANGE.digits(), SURCHARGE_RANGE.digits());
+    let bands = format!("{LEAST_BANDS}..{MOST_BANDS}");
+    let rows = [
+        (1, format!("number of bands of the tariff, {bands} ")),
+        (
+            MOST_BANDS,
+            "six entries for the upper limits of bands".to_string(),
+        ),
+        (
+            MOST_BANDS,
+            "six entries for the prices of bands".to_string(),
+        ),
+        (
+            1,
+            format!("surcharge, {surcharges} thousandths of the sum "),
+        ),
+    ];
+    assert_eq!(MOST_BANDS, 6);
+    let mut word = first;
+    for (words, what) in rows {
+        let named = match words {
+            1 => word.to_string(),
+            _ => format!("{word}..{}", word + words - 1),
+        };
+        let bytes = format!("{}..{}", 4 * word, 4 * (word + words) - 1);
+        has(header, "the header", &format!(" {named} {bytes} {what}"));
+        word += words;
+    }
+    for part in [
+        format!("m3, rising from at least {LEAST_LIMIT};"),
+        format!("{prices} {}", PRICE_RANGE.unit),
+    ] {
+        has(header, "the header", &part);
+    }
+}
+
+/// The words of a tariff in both requests, its ranges, its example, and what
+/// the choice and another candidate cost by it.
+#[test]
+fn price() {
+    let readme = plain(&document("README.md"));
+    let header = plain(&document("include/pewgull.h"));
+    let help = plain(&pewgull(&["help"]).out);
+    tariff_rows(&header, CHOOSE_LENGTH / 4);
+    tariff_rows(&header, EXAMINE_LENGTH / 4);
+    let (from, to) = (PRICE_PAGE - 8, PRICE_PAGE - 1);
+    has(&header, "the header", &format!("in bytes {from}..{to}."));
+    let bands = bands_expected();
+    has(&help, "help", &format!(" {bands}. "));
+    has(&readme, "README.md", &bands.replace("m3", "m³"));
+    for range in [PRICE_RANGE, SURCHARGE_RANGE] {
+        let part = format!("{} {}", range.digits(), range.unit);
+        has(&help, "help", &part);
+        has(&readme, "README.md", &part.replace("m3", "m³"));
+    }
+    let (prices, surcharges) = (PRICE_RANGE.most, SURCHARGE_RANGE.most);
+    let row = format!(
+        "{LEAST_BANDS} to {MOST_BANDS} bands, limits that rise, prices up to {prices} cents per \
+         m³; a surcharge up to {surcharges} thousandths |"
+    );
+    has(&readme, "README.md", &row);
+    for line in document("examples/concrete.tariff").lines() {
+        let content = line.split('#').next().unwrap().trim();
+        has(&readme, "README.md", content);
+    }
+    let both = "examples/case-a.plant examples/concrete.tariff";
+    shows(&format!("price {both}"));
+    shows(&format!("price {both} 300 67 20"));
+}
+
 /// The works short of BOD, without a dose and with one.
 #[test]
 fn dose() {
@@ -453,6 +527,9 @@ fn lengths() {
         ("WORKS_PAGE", library::WORKS_PAGE),
         ("BUILT_LENGTH", library::BUILT_LENGTH),
         ("BUILT_PAGE", library::BUILT_PAGE),
+        ("PRICE_CHOOSE_LENGTH", library::PRICE_CHOOSE_LENGTH),
+        ("PRICE_EXAMINE_LENGTH", library::PRICE_EXAMINE_LENGTH),
+        ("PRICE_PAGE", library::PRICE_PAGE),
     ] {
         has(
             &header,
@@ -462,6 +539,7 @@ fn lengths() {
     }
     let (version, figures) = (library::VERSION, library::FIGURES_LENGTH);
     let (target, works) = (library::TARGET_PAGE, library::WORKS_PAGE);
+    let price = library::PRICE_PAGE;
     for part in [
         format!("The request, version {version}: "),
         format!(" 0..3 version: {version} "),
@@ -472,6 +550,8 @@ fn lengths() {
         format!("writes {works} bytes of zeros"),
         format!("fewer than {works} bytes"),
         format!("{} 64-bit unsigned numbers", works / 8),
+        format!("writes {price} bytes of zeros"),
+        format!("fewer than {price} bytes"),
     ] {
         has(&header, "the header", &part);
     }

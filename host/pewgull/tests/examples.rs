@@ -1,6 +1,6 @@
 //! The files of examples/: each plant gets the answer that it shows, the two
-//! years have their wet fortnight, and the C programs print Case A, its choice,
-//! and what existing tanks lose.
+//! years have their wet fortnight, the tariff has its prices, and the C programs
+//! print Case A, its choice, what existing tanks lose, and a price.
 
 mod common;
 
@@ -279,4 +279,51 @@ fn existing_tanks_in_c() {
     let told: String = lost.map(|index| format!("{index} is lost\n")).collect();
     assert_eq!(ran.err, told);
     assert!(told.starts_with("145 is lost\n147 is lost\n"));
+}
+
+/// The example's tariff falls with size. The design chosen for Case A is not
+/// the cheapest by it: a candidate of 25 m3 more costs less.
+#[test]
+fn a_tariff_that_falls() {
+    let (path, tariff) = (example("case-a.plant"), example("concrete.tariff"));
+    let text = fs::read_to_string(&tariff).unwrap();
+    assert!(text.starts_with("# Shows: "));
+    let price = |words: &[&str]| {
+        let ran = pewgull(&[&["price", &path, &tariff], words].concat());
+        assert_eq!((ran.status, ran.err.as_str()), (0, ""));
+        figure(&ran.out, "price")
+    };
+    assert_eq!(price(&[]), price(&["300", "71", "22"]));
+    let total = |out: String| figure(&out, "total");
+    let chosen = total(pewgull(&["choose", &path]).out);
+    let other = total(pewgull(&["examine", &path, "300", "67", "20"]).out);
+    assert_eq!(other, chosen + 25);
+    let less = price(&[]) - price(&["300", "67", "20"]);
+    let readme = fs::read_to_string(repository().join("README.md")).unwrap();
+    let told = format!(
+        "25 m³ more, and costs {}.{:02} less",
+        less / 100,
+        less % 100
+    );
+    assert!(readme.contains(&told), "{told}");
+}
+
+/// The price in C: what `price` prints for Case A and the example's tariff, and
+/// on standard error the choice beside a candidate that costs less.
+#[test]
+fn a_price_in_c() {
+    let ran = c_program("price");
+    let (path, tariff) = (example("case-a.plant"), example("concrete.tariff"));
+    let price = pewgull(&["price", &path, &tariff]).out;
+    assert_eq!((ran.status, &ran.out), (0, &price));
+    let other = pewgull(&["price", &path, &tariff, "300", "67", "20"]).out;
+    let line = |what: &str, sheet: &str, price: &str| {
+        let [reactor, settling] = ["reactor", "settling"].map(|label| figure(sheet, label));
+        let cents = figure(price, "price");
+        format!("{what}: reactor {reactor} m3, settling {settling} m3, {cents} cents\n")
+    };
+    let chosen = pewgull(&["choose", &path]).out;
+    let examined = pewgull(&["examine", &path, "300", "67", "20"]).out;
+    let told = line("chosen", &chosen, &price) + &line("300, 67, 20", &examined, &other);
+    assert_eq!(ran.err, told);
 }

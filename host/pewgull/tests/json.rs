@@ -276,6 +276,46 @@ fn existing_tanks() {
     assert_eq!(ran.err, format!("pewgull: {message}"));
 }
 
+/// The sheet's figures, which the text has not, and the price.
+#[test]
+fn a_price() {
+    let (path, tariff) = (example("case-a.plant"), example("concrete.tariff"));
+    let ran = pewgull(&["price", "--json", &path, &tariff, "300", "75", "20"]);
+    assert_eq!((ran.status, ran.out.lines().count()), (0, 1));
+    let expected = format!("file {path}\nstatus price\n{CASE_A_LISTING}price 190749600\n");
+    assert_eq!(listing(ran.out.trim_end()), expected);
+    let ran = pewgull(&["price", "--json", &path, &tariff]);
+    let chosen = pewgull(&["choose", &path]).out;
+    let price = pewgull(&["price", &path, &tariff]).out;
+    let expected = format!("file {path}\nstatus price\n{chosen}{price}");
+    assert_eq!(listing(ran.out.trim_end()), expected);
+}
+
+/// A refused price has no figures, and an error in the tariff is one of the
+/// command.
+#[test]
+fn a_refused_price() {
+    let path = example("case-a.plant");
+    let wrong = file("json-wrong.tariff", "band 7 5\nband 6 5\nband rest 6\n");
+    let bad = file("json-bad.tariff", "band rest\n");
+    for (tariff, status, start) in [
+        (
+            &wrong,
+            1,
+            "status refused\nnumber 22\nword tariff\nmessage ",
+        ),
+        (&bad, 2, "status error\nmessage "),
+    ] {
+        let ran = pewgull(&["price", "--json", &path, tariff]);
+        assert_eq!((ran.status, ran.out.lines().count()), (status, 1));
+        let members = listing(ran.out.trim_end());
+        let rest = members.strip_prefix(&format!("file {path}\n{start}"));
+        let message = rest.unwrap_or_else(|| panic!("{members}"));
+        assert_eq!(ran.err, format!("pewgull: {message}"));
+        assert!(message.contains(tariff.as_str()), "{message}");
+    }
+}
+
 /// One object for each file, whatever comes of it.
 #[test]
 fn each_file_has_its_object() {

@@ -5,15 +5,19 @@ mod common;
 
 use common::CASE_A;
 use library::number::{BUILT_SIZE, PLANT_DATA, READING_RANGE, SHEET, SPAN, TERMS};
-use library::number::{BULKING, COD_RATIO, LINES, NO_DESIGN, NO_NUMBER};
+use library::number::{BULKING, COD_RATIO, LINES, NO_DESIGN, NO_NUMBER, TARIFF};
 use library::{built, choose, examine, explain, line, target, works};
+use library::{price_examine, Tariff, PRICE_PAGE};
 use library::{Candidate, Date, Reading, Request, Split, Term, Terms, Way};
 use library::{Existing, Span, BUILT_PAGE, LEAST_SIZE};
 use library::{FIGURES_LENGTH, MOST_TERMS, PAGE_LENGTH, TARGET_PAGE, WORKS_PAGE};
+use library::{LEAST_BANDS, LEAST_LIMIT, MOST_BANDS};
 use library::{LEAST_LINES, LEAST_SHARE, MOST_LINES, WHOLE};
 use pewgull::keys::{Field, Range, HEADS, INDEX, KEYS, MOST_BULKING, MOST_DOSE_WITHOUT_SLUDGE};
 use pewgull::keys::{TERM_TARGET, TERM_TEMPERATURE};
 use pewgull::plant_file::{self, PlantFile};
+use pewgull::price;
+use pewgull::tariff_file::{TariffFile, PRICE_RANGE, SURCHARGE_RANGE};
 use pewgull::works::{plant, refused_lines, Refused};
 use pewgull::{consent, culprit};
 
@@ -537,4 +541,86 @@ fn spans_and_built_sizes() {
         tanks[place] = LEAST_SIZE - 1;
         assert_eq!(for_tanks(tanks, least, most), BUILT_SIZE);
     }
+}
+
+/// What Case A's candidate gets with a tariff.
+fn for_tariff(tariff: &Tariff) -> u32 {
+    let bytes = case_a().to_price_examine(CANDIDATE, tariff);
+    price_examine(&bytes, &mut [0; PRICE_PAGE]).0
+}
+
+/// Two bands and a surcharge.
+fn two_bands(limit: u32, price: u32, surcharge: u32) -> Tariff {
+    let mut tariff = Tariff {
+        surcharge,
+        ..Tariff::default()
+    };
+    tariff.push(limit, price);
+    tariff.push(0, price);
+    tariff
+}
+
+#[test]
+fn tariff_ranges() {
+    for (bands, due) in [
+        (LEAST_BANDS - 1, TARIFF),
+        (LEAST_BANDS, SHEET),
+        (MOST_BANDS, SHEET),
+        (MOST_BANDS + 1, TARIFF),
+    ] {
+        let mut tariff = Tariff::default();
+        (1..).take(bands).for_each(|limit| tariff.push(limit, 5));
+        assert_eq!(for_tariff(&tariff), due, "{bands} bands");
+    }
+    let Range { least, most, .. } = PRICE_RANGE;
+    for (price, due) in [(least, SHEET), (most, SHEET), (most + 1, TARIFF)] {
+        assert_eq!(for_tariff(&two_bands(1, price, 0)), due, "{price}");
+    }
+    let Range { least, most, .. } = SURCHARGE_RANGE;
+    for (surcharge, due) in [(least, SHEET), (most, SHEET), (most + 1, TARIFF)] {
+        assert_eq!(for_tariff(&two_bands(1, 5, surcharge)), due, "{surcharge}");
+    }
+    for (limit, due) in [(LEAST_LIMIT - 1, TARIFF), (LEAST_LIMIT, SHEET)] {
+        assert_eq!(for_tariff(&two_bands(limit, 5, 0)), due, "{limit}");
+    }
+}
+
+/// A tariff whose limits mostly rise; entries past the bands are as odd.
+fn odd_tariff(random: &mut Random) -> Tariff {
+    let mut limit = random.pick(&[0, 1, 1, 1, 7, 500]);
+    let mut tariff = Tariff::default();
+    for place in 0..MOST_BANDS {
+        tariff.limits[place] = limit;
+        tariff.prices[place] = match random.next() % 32 {
+            0 => random.pick(&[PRICE_RANGE.most + 1, u32::MAX]),
+            _ => random.pick(&[0, 1, 42_000, PRICE_RANGE.most]),
+        };
+        limit = match random.next() % 32 {
+            0 => random.pick(&[0, limit, limit.saturating_sub(1)]),
+            _ => limit.saturating_add(random.pick(&[1, 1, 2, 1_000, u32::MAX / 4])),
+        };
+    }
+    tariff.count = random.pick(&[0, 1, 1, 2, 3, 3, 4, 5, 6, 6, 7, u32::MAX]);
+    tariff.surcharge = random.pick(&[0, 0, 1, 80, 80, 499, 500, 500, 501, u32::MAX]);
+    tariff
+}
+
+/// A fault of the tariff is told where the library refuses it, and nowhere else.
+#[test]
+fn faults_are_found_where_a_tariff_is_refused() {
+    let mut random = Random(22);
+    let mut counts = [0; 2];
+    for _ in 0..20_000 {
+        let tariff = odd_tariff(&mut random);
+        let due = for_tariff(&tariff);
+        assert!([SHEET, TARIFF].contains(&due));
+        let file = TariffFile {
+            tariff,
+            ..TariffFile::default()
+        };
+        let told = price::faults(&file);
+        assert_eq!(told.is_empty(), due == SHEET, "{told:?}: {tariff:?}");
+        counts[usize::from(due == SHEET)] += 1;
+    }
+    assert!(counts.iter().all(|count| *count > 2_000), "{counts:?}");
 }

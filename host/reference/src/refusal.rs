@@ -21,3 +21,4 @@ pub const LINES: u8 = 18;
 pub const ADVANCE: u8 = 19;
 pub const SPAN: u8 = 20;
 pub const BUILT_SIZE: u8 = 21;
+pub const TARIFF: u8 = 22;

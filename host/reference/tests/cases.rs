@@ -24,6 +24,8 @@ mod order;
 mod pages;
 #[path = "cases/pauses.rs"]
 mod pauses;
+#[path = "cases/price.rs"]
+mod price;
 #[path = "cases/properties.rs"]
 mod properties;
 #[path = "cases/ranges.rs"]

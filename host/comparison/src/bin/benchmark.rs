@@ -1,13 +1,15 @@
-//! Choices, censuses, examinations, two-week loads, works in lines, whole sweeps
-//! and built tanks per second of the library and of the reference, on the same
+//! Choices, censuses, examinations, two-week loads, works in lines, whole sweeps,
+//! built tanks and prices per second of the library and of the reference, on the same
 //! plants and day logs; the time of a census beside that of a choice, of a choice
 //! with four terms beside one without, of one in the COD way beside one in the BOD
 //! way, of a works beside as many choices as it has lines, of an advance beside as
-//! many examinations, of a whole sweep and of built tanks beside a choice; and the
-//! stack that a call takes.
+//! many examinations, of a whole sweep and of built tanks beside a choice, of a priced
+//! choice beside a choice; and the stack that a call takes.
 
 #[path = "benchmark/built.rs"]
 mod built;
+#[path = "benchmark/prices.rs"]
+mod prices;
 #[path = "benchmark/sweeps.rs"]
 mod sweeps;
 
@@ -323,13 +325,17 @@ fn works_beside_choices(plants: &[Request], lines: u32) -> f64 {
     all
 }
 
+/// The calls whose stack is measured.
+const STACKS: &str = "choose, examine, explain, census, load, target, works, line, \
+                      start of a sweep, advance, examine in a sweep, built tanks, \
+                      price of the choice, price of a candidate";
+
 /// The most stack that a call takes over all plants.
 fn stacks(plants: &[Request]) {
-    let mut most = [0; 12];
+    let mut most = [0; 14];
     let eight = works::equal(8);
     let log = &ten_years()[0];
-    let winter = [11, 16, 3, 15, 8, 20_000];
-    let target = targets::request(4, &[winter; MOST_TERMS], (2, 29));
+    let target = targets::request(4, &[[11, 16, 3, 15, 8, 20_000]; MOST_TERMS], (2, 29));
     let mut page = [0; WORKS_PAGE];
     let four_terms = with_four_terms(plants);
     let by_cod = by_cod(&four_terms);
@@ -338,6 +344,7 @@ fn stacks(plants: &[Request]) {
         let last = grid_number(plant) - ADVANCE_MOST;
         let state = plant.state_bytes(last, NONE_YET);
         let built = Asked::of(*plant, AMPLE, 50, 180).bytes();
+        let [price_choose, price_examine] = prices::requests_of(plant);
         let taken = [
             stack_of(library::CHOOSE, &choose, &mut page),
             stack_of(library::EXAMINE, &examine, &mut page),
@@ -351,15 +358,15 @@ fn stacks(plants: &[Request]) {
             stack_of_advance(&state),
             stack_of_examination(&state),
             stack_of(library::BUILT, &built, &mut page),
+            stack_of(library::PRICE_CHOOSE, &price_choose, &mut page),
+            stack_of(library::PRICE_EXAMINE, &price_examine, &mut page),
         ];
         assert_eq!(taken[0].0, chosen(plant));
         for (most, (_, bytes)) in most.iter_mut().zip(taken) {
             *most = bytes.max(*most);
         }
     }
-    let names = "choose, examine, explain, census, load, target, works, line, \
-                 start of a sweep, advance, examine in a sweep, built tanks";
-    let each = names.split(", ").zip(most);
+    let each = STACKS.split(", ").zip(most);
     let listed: Vec<String> = each.map(|(name, most)| format!("{name} {most}")).collect();
     println!("stack, bytes: {}", listed.join(", "));
 }
@@ -446,6 +453,8 @@ fn main() {
     }
     sweeps::rates_of_sweeps(&plants);
     built::rates_of_tanks(&plants);
+    prices::rates_of_prices(&plants);
     stacks(&plants);
     limits(&plants);
+    prices::limit(&plants);
 }
