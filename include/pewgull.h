@@ -462,10 +462,10 @@ uint32_t pewgull_built(const uint8_t *request, size_t request_length,
  *   69     276..279   surcharge, 0..500 thousandths of the sum
  *
  * Entries past the number of bands are not looked at, nor is the last band's
- * limit. Each limit is above the one before it. Cubic metre n of a tank is
- * charged in the first band whose limit is at least n, the reactor and the
- * settling tank separately, each from cubic metre 1 on. The surcharge, on the
- * sum of the two, is rounded up to the cent, once, at the end.
+ * limit. Each limit is above the one before it. A cubic metre has the price of
+ * the first band that reaches it; reactor and settling tank are counted by
+ * themselves, each from its cubic metre 1 on. The surcharge is taken on the sum
+ * of both, and rounded up to a cent that one time.
  *
  * Gives 0 and writes PEWGULL_PRICE_PAGE bytes, sixteen 64-bit unsigned numbers,
  * little-endian: the fifteen figures of the sheet in the order of the listing,

@@ -2,18 +2,20 @@
 -- Assumes nothing.
 use mathlib.Core.Path.{_≡_, sym, _∙_}
 use mathlib.Core.List.{List, _++_}
-use Prim.Native.Nat.{ℕ, _≤_}
+use Prim.Native.Nat.{ℕ, _+_, _≤_}
 use native.Mathlib.Decide.{decLe}
 use native.Mathlib.Omega.{arith}
 use lib.ListN.{length, take, drop}
 use lib.Seq.{length-take-le, length-front, take-at, drop-at}
 use Rattle.rules.specs.Answers.{writtenCount}
 use Rattle.request.specs.Layout.{decode, askedCandidate}
-use Rattle.request.specs.Frames.{candidateWords}
+use Rattle.request.specs.Frames.{dataWords, candidateWords}
 use Rattle.request.specs.declared.Data.{Data}
 use Rattle.request.specs.declared.Decoded.{Decoded}
 use Rattle.listing.proofs.Outcomes.{writing-fits, writing-long}
 use Rattle.putting.specs.Outcomes.{Outcome, outcome, putOn, malformed, onData, answered, Answering}
+use Rattle.standing.specs.Tanks.{existingWords, askedExisting, askedSpan, builtPut, BuiltFor}
+use Rattle.quoting.specs.Quotes.{tariffWords, askedTariff, pricePut, PricedFor, pricedAt, examinedAndPriced}
 use Rattle.interface.specs.Calls.{examinedAt, examined, ChosenFor}
 use Rattle.compare.specs.Records.{Call, Answers}
 use Rattle.compare.specs.declared.Operation.{Operation}
@@ -34,17 +36,27 @@ unfolding onData malformed
 data-within answer page (Decoded.Malformed fault) each = omega arith
 data-within answer page (Decoded.Data x) each = each x
 
-choosing-within : (page : List ℕ) (o : Outcome) (d : Decoded) → Answering ChosenFor answered page o d → o .written ≤ length page
+answering-within :
+    {A : Type 0} (keeps : Data → A → Type 0) (put : A → List ℕ → Outcome) (page : List ℕ) (o : Outcome) (d : Decoded)
+    → ((a : A) → put a page .written ≤ length page)
+    → Answering keeps put page o d
+    → o .written ≤ length page
 unfolding malformed
-choosing-within page o (Decoded.Malformed fault) e = rw e (omega arith)
-choosing-within page o (Decoded.Data x) (a, c, e) = rw e (put-within _ _ page)
+answering-within keeps put page o (Decoded.Malformed fault) each e = rw e (omega arith)
+answering-within keeps put page o (Decoded.Data x) each (a, c, e) = rw e (each a)
 
 pub call-within :
     (operation : Operation) (request page : List ℕ) (o : Outcome) → Call operation request page o → o .written ≤ length page
-unfolding examined
+unfolding examined examinedAndPriced
 call-within Operation.Examine request page o e =
     rw e (data-within (examinedAt (askedCandidate request) page) page (decode request candidateWords) (λ x. put-within _ _ page))
-call-within Operation.Choose request page o e = choosing-within page o (decode request 0) e
+call-within Operation.Choose request page o e = answering-within ChosenFor answered page o (decode request 0) (λ a. put-within _ _ page) e
+call-within Operation.Built request page o e =
+    answering-within (BuiltFor (askedExisting request) (askedSpan request)) builtPut page o (decode request existingWords) (λ a. put-within _ _ page) e
+call-within Operation.PriceChoose request page o e =
+    answering-within (PricedFor (askedTariff request dataWords)) pricePut page o (decode request tariffWords) (λ a. put-within _ _ page) e
+call-within Operation.PriceExamine request page o e =
+    rw e (data-within (pricedAt (askedCandidate request) (askedTariff request (dataWords + candidateWords)) page) page (decode request (candidateWords + tariffWords)) (λ x. put-within _ _ page))
 
 -- the first n elements of a list are n
 pub counted : (n : ℕ) (l : List ℕ) → n ≤ length l → n ≡ length (take n l)

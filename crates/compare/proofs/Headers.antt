@@ -30,19 +30,30 @@ module _ (bytes : List ℕ) (room : ℕ) (r : room ≡ word bytes 1) where
     by-operation fits code o h e =
         rw (le-leb (word bytes 1) 512 (omega arith), le-leb (word bytes 2) longestRequest (omega arith), ← o, ← l, ← r) e
 
--- the lengths of a good header are its words, and passed their tests
-tested :
-    (short fits first second : Bool) (operation : Operation) (l r length room : ℕ)
-    → cond short
-    (cond fits (cond first (Header.Record Operation.Examine l r) (cond second (Header.Record Operation.Choose l r) Header.Bad)) Header.Bad)
-    Header.Bad
+-- the lengths of a good header are its words: whatever the operation ..
+by-code :
+    (a b c d e : Bool) (operation : Operation) (l r length room : ℕ)
+    → cond a (Header.Record Operation.Examine l r)
+    (cond b (Header.Record Operation.Choose l r)
+    (cond c (Header.Record Operation.Built l r)
+    (cond d (Header.Record Operation.PriceChoose l r) (cond e (Header.Record Operation.PriceExamine l r) Header.Bad))))
     ≡ Header.Record operation length room
-    → (short ≡ true) × (fits ≡ true) × (l ≡ length) × (r ≡ room)
-tested true true true second operation l r length room e = (refl, refl, cc, cc)
-tested true true false true operation l r length room e = (refl, refl, cc, cc)
-tested true true false false operation l r length room e = let z : _≡_ {A = ℕ} 0 1 = cc in absurd (omega arith)
-tested true false first second operation l r length room e = let z : _≡_ {A = ℕ} 0 1 = cc in absurd (omega arith)
-tested false fits first second operation l r length room e = let z : _≡_ {A = ℕ} 0 1 = cc in absurd (omega arith)
+    → (l ≡ length) × (r ≡ room)
+by-code true b c d e operation l r length room h = (cc, cc)
+by-code false true c d e operation l r length room h = (cc, cc)
+by-code false false true d e operation l r length room h = (cc, cc)
+by-code false false false true e operation l r length room h = (cc, cc)
+by-code false false false false true operation l r length room h = (cc, cc)
+by-code false false false false false operation l r length room h = let z : _≡_ {A = ℕ} 0 1 = cc in absurd (omega arith)
+
+-- .. and they passed their tests
+tested :
+    (short fits : Bool) (h : Header) (operation : Operation) (length room : ℕ)
+    → cond short (cond fits h Header.Bad) Header.Bad ≡ Header.Record operation length room
+    → (short ≡ true) × (fits ≡ true) × (h ≡ Header.Record operation length room)
+tested true true h operation length room e = (refl, refl, e)
+tested true false h operation length room e = let z : _≡_ {A = ℕ} 0 1 = cc in absurd (omega arith)
+tested false fits h operation length room e = let z : _≡_ {A = ℕ} 0 1 = cc in absurd (omega arith)
 
 -- a good header's request and page are within their bounds
 pub bounds :
@@ -50,7 +61,7 @@ pub bounds :
     → (length ≤ longestRequest) × (room ≤ 512)
 unfolding headerOf operationOf
 bounds bytes operation length room e =
-    let room = word bytes 1 in
-    let length = word bytes 2 in
-    let t = tested (leb room 512) (leb length longestRequest) (eqb (word bytes 0) 0) (eqb (word bytes 0) 1) _ _ _ _ _ e in
-    (omega (arith, leb-true length longestRequest (t .1), t .2), omega (arith, leb-true room 512 (t .0), t .3))
+    let code = word bytes 0 in
+    let t = tested (leb (word bytes 1) 512) (leb (word bytes 2) longestRequest) (operationOf code (word bytes 2) (word bytes 1)) operation length room e in
+    let same = by-code (eqb code 0) (eqb code 1) (eqb code 2) (eqb code 3) (eqb code 4) operation (word bytes 2) (word bytes 1) length room (t .2) in
+    (omega (arith, leb-true (word bytes 2) longestRequest (t .1), same .0), omega (arith, leb-true (word bytes 1) 512 (t .0), same .1))

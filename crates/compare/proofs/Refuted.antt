@@ -50,3 +50,12 @@ request-of-4097 = refl
 pub operation-257 : headerOf (header 1 1 0 2 0 0) ≡ Header.Bad
 unfolding headerOf operationOf word
 operation-257 = refl
+
+-- the codes of existing tanks and of prices, with their requests' lengths, and the first that is none
+pub operations :
+    (headerOf (header 2 0 8 0 252 0) ≡ Header.Record Operation.Built 252 8)
+    × (headerOf (header 3 0 128 0 24 1) ≡ Header.Record Operation.PriceChoose 280 128)
+    × (headerOf (header 4 0 128 0 36 1) ≡ Header.Record Operation.PriceExamine 292 128)
+    × (headerOf (header 5 0 128 0 36 1) ≡ Header.Bad)
+unfolding headerOf operationOf word
+operations = (refl, refl, refl, refl)

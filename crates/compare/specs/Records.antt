@@ -8,6 +8,8 @@ use lib.ListN.{take, drop}
 use Rattle.words.specs.Bytes.{word}
 use Rattle.request.specs.Frames.{longestRequest}
 use Rattle.putting.specs.Outcomes.{Outcome, outcome}
+use Rattle.standing.specs.Tanks.{BuiltOn}
+use Rattle.quoting.specs.Quotes.{ChosenAndPriced, examinedAndPriced}
 use Rattle.interface.specs.Calls.{examined, Choosing}
 use Rattle.compare.specs.declared.Operation.{Operation}
 use Rattle.compare.specs.declared.Header.{Header}
@@ -16,7 +18,10 @@ use Rattle.compare.specs.declared.Header.{Header}
 unfoldable pub operationOf : ℕ → ℕ → ℕ → Header
 operationOf code length room =
     cond (eqb code 0) (Header.Record Operation.Examine length room)
-    (cond (eqb code 1) (Header.Record Operation.Choose length room) Header.Bad)
+    (cond (eqb code 1) (Header.Record Operation.Choose length room)
+    (cond (eqb code 2) (Header.Record Operation.Built length room)
+    (cond (eqb code 3) (Header.Record Operation.PriceChoose length room)
+    (cond (eqb code 4) (Header.Record Operation.PriceExamine length room) Header.Bad))))
 
 -- a header: the operation's word, then the page's length, at most 512, and the request's
 unfoldable pub headerOf : List ℕ → Header
@@ -29,6 +34,9 @@ headerOf bytes =
 abbrev pub Call : Operation → List ℕ → List ℕ → Outcome → Type 0
 Call Operation.Examine request page o = o ≡ examined request page
 Call Operation.Choose request page o = Choosing request page o
+Call Operation.Built request page o = BuiltOn request page o
+Call Operation.PriceChoose request page o = ChosenAndPriced request page o
+Call Operation.PriceExamine request page o = o ≡ examinedAndPriced request page
 
 -- a request answered on the first room bytes of a page
 pub record Answers (operation : Operation) (request : List ℕ) (room : ℕ) (before after : List ℕ) (number written : ℕ) : Type 0 where

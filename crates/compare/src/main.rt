@@ -1,5 +1,6 @@
 // Answers records from standard input by the calls for C, at most 10,000 of them, and prints what each call gives. A record is
-// a header of three words, an operation (0 to examine, 1 to choose), a page's length and a request's, and then the request.
+// a header of three words, an operation (0 to examine, 1 to choose, 2 for existing tanks, 3 and 4 for the price of the design chosen and of
+// a candidate), a page's length and a request's, and then the request.
 use libc::STDIN_FILENO;
 use libc::STDOUT_FILENO;
 use request::LONGEST_REQUEST;
@@ -14,6 +15,9 @@ ghost use Rattle.compare.specs.Records.{headerOf, Call, Answers};
 pub enum Operation {
     Examine,
     Choose,
+    Built,
+    PriceChoose,
+    PriceExamine,
 }
 
 // A record's header: the operation, the request's length and the page's, or one that no record has.
@@ -55,6 +59,21 @@ fn decode_header(bytes: &[u8; 12]) -> Header
             length,
             room,
         },
+        2 => Header::Record {
+            operation: Operation::Built,
+            length,
+            room,
+        },
+        3 => Header::Record {
+            operation: Operation::PriceChoose,
+            length,
+            room,
+        },
+        4 => Header::Record {
+            operation: Operation::PriceExamine,
+            length,
+            room,
+        },
         _ => Header::Bad,
     }
 }
@@ -66,6 +85,9 @@ fn call(operation: Operation, request: &[u8], page: &mut [u8], written: &mut u64
     match operation {
         Operation::Examine => interface::pewgull_examine(request, page, written),
         Operation::Choose => interface::pewgull_choose(request, page, written),
+        Operation::Built => interface::pewgull_built(request, page, written),
+        Operation::PriceChoose => interface::pewgull_price_choose(request, page, written),
+        Operation::PriceExamine => interface::pewgull_price_examine(request, page, written),
     }
 }
 

@@ -4,17 +4,17 @@ use crate::collection::{Case, Operation};
 use crate::model::Outcome;
 
 /// Largest size of the stored requests.
-pub const MOST_BYTES: usize = 400_000;
+pub const MOST_BYTES: usize = 550_000;
 
 /// A case as a record of stdin: operation, page length, request's length,
 /// request.
 pub fn record(case: &Case) -> Vec<u8> {
-    let operation: u32 = match case.operation {
-        Operation::Examine => 0,
-        Operation::Choose => 1,
-    };
     let request = case.request_bytes();
-    let header = [operation, case.page_length, request.len() as u32];
+    let header = [
+        case.operation as u32,
+        case.page_length,
+        request.len() as u32,
+    ];
     let mut bytes: Vec<u8> = header.iter().flat_map(|word| word.to_le_bytes()).collect();
     bytes.extend(request);
     bytes
@@ -34,6 +34,18 @@ fn strip<'a>(stored: &'a [u8], wanted: &[u8]) -> Option<&'a [u8]> {
 
 fn hex(bytes: &[u8]) -> String {
     bytes.iter().map(|byte| format!("{byte:02x}")).collect()
+}
+
+/// An answer to be read: a listing is text; of the other pages the bytes.
+fn shown(operation: Operation, answer: &[u8]) -> String {
+    let is_end = |byte: &u8| *byte == b'\n';
+    let length = answer.iter().position(is_end).map_or(0, |end| end + 1);
+    let (first_line, page) = answer.split_at(length);
+    let page = match operation {
+        Operation::Examine | Operation::Choose => String::from_utf8_lossy(page).into_owned(),
+        _ => hex(page),
+    };
+    String::from_utf8_lossy(first_line).into_owned() + &page
 }
 
 /// The first difference between the stored files and what is made now.
@@ -59,8 +71,7 @@ pub fn first_difference(
             Some(rest) => answers = rest,
             None => {
                 let stored = &answers[..made.len().min(answers.len())];
-                let stored = String::from_utf8_lossy(stored).into_owned();
-                let made = String::from_utf8_lossy(&made).into_owned();
+                let [stored, made] = [stored, &made[..]].map(|bytes| shown(case.operation, bytes));
                 return Some(format!("stdout, {name}\nstored:\n{stored}\nmade:\n{made}"));
             }
         }

@@ -22,8 +22,9 @@ const TRIES: usize = 400;
 /// The most that both tanks of them have together, m3.
 const MOST_TOTAL: u64 = 30_000;
 
-/// A plant of these kinds that has a design, with terms or without.
-fn subject_of(random: &mut Random, kinds: [u32; 3], terms: bool) -> Option<Subject> {
+/// A plant of this process, tank flow and way with a permitted candidate, with terms
+/// or without.
+pub fn plant_of(random: &mut Random, kinds: [u32; 3], terms: bool) -> Option<Request> {
     let [process, flow, way] = kinds;
     for _ in 0..TRIES {
         let plant = plants::plausible(random)
@@ -41,7 +42,7 @@ fn subject_of(random: &mut Random, kinds: [u32; 3], terms: bool) -> Option<Subje
         let total: u64 = volumes(&plant).iter().map(|v| u64::from(*v)).sum();
         let seasons = plant.get(TERM_COUNT) > 0;
         if seasons == terms && (1..=MOST_TOTAL).contains(&total) {
-            return Subject::of(plant);
+            return Some(plant);
         }
     }
     None
@@ -57,7 +58,8 @@ pub fn subjects() -> Vec<Subject> {
             for way in [BY_BOD, BY_COD] {
                 for turn in 0..EACH {
                     let terms = (process + flow + way + turn) % 2 == 0;
-                    let own = subject_of(&mut random, [process, flow, way], terms);
+                    let plant = plant_of(&mut random, [process, flow, way], terms);
+                    let own = plant.and_then(Subject::of);
                     found.extend(match turn {
                         0 => own,
                         _ => own.and_then(Subject::at_choice),
@@ -97,18 +99,18 @@ fn about_volumes(subjects: &[Subject], tariffs: impl Fn(Volumes) -> Vec<Tariff>)
 }
 
 /// One less, just that, and one more.
-fn about(volume: u32) -> [u32; 3] {
+pub fn about(volume: u32) -> [u32; 3] {
     [volume.saturating_sub(1), volume, volume + 1]
 }
 
 /// Falling prices, rising ones, and ones that differ by a cent.
 const PAIRS: [(u32, u32); 5] = [(7, 3), (3, 7), (1, 0), (0, 1), (999_999, MOST_PRICE)];
 /// The prices of six bands.
-const SIX: [u32; MOST_BANDS] = [31, 2, 97, 0, 13, 5];
+pub const SIX: [u32; MOST_BANDS] = [31, 2, 97, 0, 13, 5];
 
 /// Six bands with this limit in a place; the limits before it count up from 1, the
 /// ones after it follow at once.
-fn six_with(limit: u32, place: usize) -> Tariff {
+pub fn six_with(limit: u32, place: usize) -> Tariff {
     let mut six = tariff(&SIX.map(|price| (0, price)), 1);
     for other in 0..MOST_BANDS {
         six.limits[other] = match other < place {
@@ -276,24 +278,31 @@ fn edges_of_surcharge(subjects: &[Subject]) -> Vec<Asked> {
 /// Thousandths of a cent that the surcharge has over whole cents.
 const OVER: [u64; 8] = [0, 1, 2, 499, 500, 501, 998, 999];
 
-/// Surcharges that are whole cents, or so many thousandths over: the price of the
-/// larger tank's last cubic metre is set so.
+/// A tariff by which a surcharge is so many thousandths over whole cents: the price of
+/// the larger tank's last cubic metre is set so.
+pub fn over_whole_cents(
+    [reactor, settling]: Volumes,
+    surcharge: u32,
+    price: u32,
+    over: u64,
+) -> Option<Tariff> {
+    let larger = reactor.max(settling);
+    let others = u64::from(reactor + settling - 1);
+    let sum = |last: u64| others * u64::from(price) + last;
+    let fits = |last: &u64| sum(*last) * u64::from(surcharge) % 1_000 == over;
+    let last = (1..=1_000).find(fits)?;
+    let bands = [(larger - 1, price), (0, last as u32)];
+    Some(tariff(&bands, surcharge))
+}
+
+/// Surcharges that are whole cents, or so many thousandths over.
 fn whole_cents(subjects: &[Subject]) -> Vec<Asked> {
-    about_volumes(subjects, |[reactor, settling]| {
+    about_volumes(subjects, |volumes| {
         let mut tariffs = Vec::new();
-        let larger = reactor.max(settling);
-        let others = u64::from(reactor + settling - 1);
         for surcharge in [1, 3, 125, 333, 499, 500] {
             for price in [0, 1, 12_345] {
-                let sum = |last: u64| others * u64::from(price) + last;
-                for over in OVER {
-                    let fits = |last: &u64| sum(*last) * surcharge % 1_000 == over;
-                    let Some(last) = (1..=1_000).find(fits) else {
-                        continue;
-                    };
-                    let bands = [(larger - 1, price), (0, last as u32)];
-                    tariffs.push(tariff(&bands, surcharge as u32));
-                }
+                let of = |over: u64| over_whole_cents(volumes, surcharge, price, over);
+                tariffs.extend(OVER.into_iter().filter_map(of));
             }
         }
         tariffs

@@ -16,7 +16,7 @@ pub fn quick() -> Request {
 }
 
 /// A right tariff, and one for each reason that makes it wrong; one is wrong in all.
-fn tariffs() -> [Tariff; 9] {
+pub fn tariffs() -> [Tariff; 9] {
     let right = tariff(&[(1, 9), (2_060, 5), (3_105, 7), (0, 2)], 17);
     let dear = Tariff {
         surcharge: 501,
@@ -36,10 +36,10 @@ fn tariffs() -> [Tariff; 9] {
 }
 
 /// A fault of a request.
-type Fault = fn(Request) -> Request;
+pub type Fault = fn(Request) -> Request;
 
 /// What the data are refused for.
-const OF_DATA: [Fault; 6] = [
+pub const OF_DATA: [Fault; 6] = [
     |plant| plant.with(LOAD, 0),
     |plant| plant.with(SLUDGE_VOLUME_INDEX, 181),
     |plant| plant.with_reading(BOD, MEASURED, f32::NAN.to_bits()),
@@ -50,7 +50,7 @@ const OF_DATA: [Fault; 6] = [
 
 /// What a candidate is refused for: off the grid, nitrate, nitrification in a term,
 /// nitrate in a term, solids, surface and depth.
-const OF_CANDIDATE: [Fault; 7] = [
+pub const OF_CANDIDATE: [Fault; 7] = [
     |plant| plant.with(THICKENING, 26),
     |plant| plant.with(FRACTION, 479),
     |plant| with_term(plant, [1, 1, 1, 31, 4, 50_000]),
@@ -66,7 +66,7 @@ const OF_CANDIDATE: [Fault; 7] = [
 ];
 
 /// One term more.
-fn with_term(plant: Request, term: TermWords) -> Request {
+pub fn with_term(plant: Request, term: TermWords) -> Request {
     let place = plant.get(TERM_COUNT) as usize;
     let words = (0..).zip(term);
     let changed = words.fold(plant, |changed, (word, value)| {

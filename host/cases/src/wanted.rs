@@ -1,7 +1,7 @@
 //! The kinds that must be there, how many of each, and which answers each
 //! may have.
 
-use crate::collection::{Case, Operation};
+use crate::collection::Case;
 use crate::model::Outcome;
 use std::collections::BTreeMap;
 
@@ -226,24 +226,136 @@ const WANTED_PAGES: [Wanted; 5] = [
     ("random", 8, &[]),
 ];
 
-/// Numbers that each operation must give at least once.
-const EXAMINE_NUMBERS: [u32; 17] = [0, 1, 2, 3, 4, 6, 7, 8, 9, 10, 11, 14, 15, 16, 17, 102, 103];
-const CHOOSE_NUMBERS: [u32; 11] = [0, 1, 2, 3, 4, 5, 11, 14, 17, 102, 103];
+const WANTED_BUILT: [Wanted; 33] = [
+    ("built, sizes just met", 5, &[0]),
+    ("built, one size missed", 15, &[0]),
+    ("built, held by an end ratio", 4, &[0]),
+    ("built, one size alone, met", 6, &[0]),
+    ("built, one size alone, missed", 3, &[0]),
+    ("built, size of 0", 7, &[21]),
+    ("built, size of a power of 2", 4, &[0]),
+    ("built, span", 7, &[0]),
+    ("built, wrong span", 13, &[20]),
+    ("built, lost from an index on", 12, &[0]),
+    ("built, own index", 3, &[0]),
+    ("built, own index refused", 3, &[1, 17]),
+    ("built, lost between two held", 12, &[0]),
+    ("built, held between two lost", 3, &[0]),
+    ("built, lost twice", 2, &[0]),
+    ("built, no ratio for both", 4, &[0]),
+    ("built, widest span", 8, &[0]),
+    ("built, site just holds", 4, &[0]),
+    ("built, site too small", 3, &[0]),
+    ("built, covered", 8, &[0]),
+    ("built, not covered", 8, &[0]),
+    ("built, solids and volume", 8, &[0]),
+    ("built, one refusal", 9, &[1, 2, 3, 4, 6, 14, 17, 21]),
+    (
+        "built, first of the refusals",
+        8,
+        &[1, 2, 3, 4, 6, 14, 17, 21],
+    ),
+    ("built, 4 not due by COD", 2, &[0, 14]),
+    ("built, 20 before every other", 6, &[20]),
+    ("built, grid edge", 4, &[0]),
+    ("built, off grid", 7, &[6]),
+    ("built, exact page", 3, &[0, 20]),
+    ("built, short page", 4, &[11]),
+    ("built, wrong length", 6, &[101]),
+    ("built, wrong version", 4, &[102]),
+    ("built, unknown kind", 4, &[103]),
+];
+
+const WANTED_PRICES: [Wanted; 35] = [
+    ("price, limit about a volume", 24, &[0]),
+    ("price, limit in each place", 6, &[0]),
+    ("price, limits at both volumes", 11, &[0]),
+    ("price, first metres", 6, &[0]),
+    ("price, small tanks", 6, &[0]),
+    ("price, large tanks", 2, &[0]),
+    ("price, number of bands", 6, &[0]),
+    ("price, wrong number of bands", 7, &[22]),
+    ("price, limits just rise", 3, &[0]),
+    ("price, limits not rising", 11, &[22]),
+    ("price, last limit", 5, &[0]),
+    ("price, entries past the count", 10, &[0]),
+    ("price, edge of a price", 6, &[0]),
+    ("price, price too high", 8, &[22]),
+    ("price, surcharge", 8, &[0]),
+    ("price, surcharge too high", 5, &[22]),
+    ("price, surcharge of whole cents", 2, &[0]),
+    ("price, surcharge rounded up", 10, &[0]),
+    ("price, refusal of the data", 12, &[1, 2, 3, 4, 14, 17]),
+    (
+        "price, refusal of the candidate",
+        14,
+        &[6, 7, 8, 9, 10, 15, 16],
+    ),
+    ("price, wrong tariff", 8, &[22]),
+    ("price, 4 not due by COD", 2, &[0, 22]),
+    (
+        "price of the choice, refusal of the data",
+        6,
+        &[1, 2, 3, 4, 14, 17],
+    ),
+    ("price of the choice, wrong tariff", 5, &[22]),
+    ("price of the choice, no design", 6, &[5]),
+    ("price of the choice, limit about a volume", 6, &[0]),
+    ("price of the choice, bands", 2, &[0]),
+    ("price of the choice, surcharge", 3, &[0]),
+    ("price of the choice, cheaper rivals", 2, &[0]),
+    ("price of the choice, each process", 5, &[0]),
+    ("price, exact page", 3, &[0, 22]),
+    ("price, short page", 5, &[11]),
+    ("price, wrong length", 5, &[101]),
+    ("price, wrong version", 6, &[102]),
+    ("price, unknown kind", 4, &[103]),
+];
+
+/// Everything that is wanted.
+const EVERY_KIND: [&[Wanted]; 9] = [
+    &WANTED,
+    &WANTED_TERMS,
+    &WANTED_BULKING,
+    &WANTED_PAUSES,
+    &WANTED_FINER,
+    &WANTED_COD,
+    &WANTED_PAGES,
+    &WANTED_BUILT,
+    &WANTED_PRICES,
+];
+
+const EXAMINE_NUMBERS: &[u32] = &[0, 1, 2, 3, 4, 6, 7, 8, 9, 10, 11, 14, 15, 16, 17, 102, 103];
+const CHOOSE_NUMBERS: &[u32] = &[0, 1, 2, 3, 4, 5, 11, 14, 17, 102, 103];
+const BUILT_NUMBERS: &[u32] = &[0, 1, 2, 3, 4, 6, 11, 14, 17, 20, 21, 101, 102, 103];
+const PRICE_CHOOSE_NUMBERS: &[u32] = &[0, 1, 2, 3, 4, 5, 11, 14, 17, 22, 101, 102, 103];
+const PRICE_EXAMINE_NUMBERS: &[u32] = &[
+    0, 1, 2, 3, 4, 6, 7, 8, 9, 10, 11, 14, 15, 16, 17, 22, 101, 102, 103,
+];
+
+/// The operations by their codes, with the numbers that each must give at least once.
+const OPERATIONS: [(&str, &[u32]); 5] = [
+    ("examine", EXAMINE_NUMBERS),
+    ("choose", CHOOSE_NUMBERS),
+    ("built tanks", BUILT_NUMBERS),
+    ("price of the choice", PRICE_CHOOSE_NUMBERS),
+    ("price of a candidate", PRICE_EXAMINE_NUMBERS),
+];
 
 /// Counts by kind and by operation and number.
 pub struct Summary {
     pub kinds: BTreeMap<&'static str, BTreeMap<u32, usize>>,
-    pub numbers: [BTreeMap<u32, usize>; 2],
+    pub numbers: [BTreeMap<u32, usize>; OPERATIONS.len()],
 }
 
 pub fn summary(cases: &[Case], outcomes: &[Outcome]) -> Summary {
     let mut kinds: BTreeMap<&'static str, BTreeMap<u32, usize>> = BTreeMap::new();
-    let mut numbers = [BTreeMap::new(), BTreeMap::new()];
+    let mut numbers: [BTreeMap<u32, usize>; OPERATIONS.len()] = Default::default();
     for (case, outcome) in cases.iter().zip(outcomes) {
         let kind = kinds.entry(case.kind).or_default();
         *kind.entry(outcome.number).or_default() += 1;
-        let place = usize::from(case.operation == Operation::Choose);
-        *numbers[place].entry(outcome.number).or_default() += 1;
+        let of_operation = &mut numbers[case.operation as usize];
+        *of_operation.entry(outcome.number).or_default() += 1;
     }
     Summary { kinds, numbers }
 }
@@ -254,19 +366,11 @@ fn counts(of: &BTreeMap<u32, usize>) -> String {
 }
 
 impl Summary {
-    /// What is missing or has an answer that its kind must not have.
-    pub fn faults(&self) -> Vec<String> {
+    /// Kinds of which there are too few, or with an answer that they must not have.
+    fn faults_of_kinds(&self) -> Vec<String> {
         let mut faults = Vec::new();
         let empty = BTreeMap::new();
-        let wanted = WANTED
-            .iter()
-            .chain(&WANTED_TERMS)
-            .chain(&WANTED_BULKING)
-            .chain(&WANTED_PAUSES)
-            .chain(&WANTED_FINER)
-            .chain(&WANTED_COD)
-            .chain(&WANTED_PAGES);
-        for (kind, least, allowed) in wanted {
+        for (kind, least, allowed) in EVERY_KIND.into_iter().flatten() {
             let found = self.kinds.get(kind).unwrap_or(&empty);
             let count: usize = found.values().sum();
             if count < *least {
@@ -277,12 +381,15 @@ impl Summary {
                 faults.push(format!("kind '{kind}': unexpected answer {number}"));
             }
         }
-        let wanted = [&EXAMINE_NUMBERS[..], &CHOOSE_NUMBERS[..]];
-        for (place, name) in ["examine", "choose"].into_iter().enumerate() {
-            for number in wanted[place] {
-                if !self.numbers[place].contains_key(number) {
-                    faults.push(format!("{name}: no case answers {number}"));
-                }
+        faults
+    }
+
+    /// What is missing or has an answer that its kind must not have.
+    pub fn faults(&self) -> Vec<String> {
+        let mut faults = self.faults_of_kinds();
+        for ((name, wanted), found) in OPERATIONS.iter().zip(&self.numbers) {
+            for number in wanted.iter().filter(|number| !found.contains_key(*number)) {
+                faults.push(format!("{name}: no case answers {number}"));
             }
         }
         faults
@@ -293,12 +400,9 @@ impl Summary {
             let count: usize = found.values().sum();
             eprintln!("{count:5}  {kind}  ({})", counts(found));
         }
-        for (place, name) in ["examine", "choose"].into_iter().enumerate() {
-            let count: usize = self.numbers[place].values().sum();
-            eprintln!(
-                "{name}: {count} cases, by number {}",
-                counts(&self.numbers[place])
-            );
+        for ((name, _), found) in OPERATIONS.iter().zip(&self.numbers) {
+            let count: usize = found.values().sum();
+            eprintln!("{name}: {count} cases, by number {}", counts(found));
         }
     }
 }

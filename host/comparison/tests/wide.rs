@@ -487,9 +487,12 @@ fn stored_cases() {
         let operation = match case.operation {
             cases::collection::Operation::Examine => Operation::Examine,
             cases::collection::Operation::Choose => Operation::Choose,
+            cases::collection::Operation::Built => Operation::Built,
+            cases::collection::Operation::PriceChoose => Operation::PriceChoose,
+            cases::collection::Operation::PriceExamine => Operation::PriceExamine,
         };
         let length = case.page_length as usize;
-        found.add(compare(operation, &case.request_bytes(), length));
+        found.add(compare(operation, case.request_bytes(), length));
     }
     settle("stored cases", &found, &[(SHEET, 400)]);
 }

@@ -33,9 +33,31 @@ returns-5 : tie.Need-returns-5
 unfolding operationOf
 returns-5 c =
     let length = c .before .before .before .before in
+    by-operation _ _ (length .before .before .before .word .ensures) (omega arith) _ (length .word2 .ensures) (omega arith)
+    _ (c .before .word3 .ensures) _ (simp (c .match .keys3))
+
+returns-6 : tie.Need-returns-6
+unfolding operationOf
+returns-6 c =
+    let length = c .before .before .before .before in
+    by-operation _ _ (length .before .before .before .word .ensures) (omega arith) _ (length .word2 .ensures) (omega arith)
+    _ (c .before .word3 .ensures) _ (simp (c .match .keys4))
+
+returns-7 : tie.Need-returns-7
+unfolding operationOf
+returns-7 c =
+    let length = c .before .before .before .before in
+    by-operation _ _ (length .before .before .before .word .ensures) (omega arith) _ (length .word2 .ensures) (omega arith)
+    _ (c .before .word3 .ensures) _ (simp (c .match .keys5))
+
+returns-8 : tie.Need-returns-8
+unfolding operationOf
+returns-8 c =
+    let length = c .before .before .before .before in
     let none = c .match .rest in
     by-operation _ _ (length .before .before .before .word .ensures) (omega arith) _ (length .word2 .ensures) (omega arith)
-    _ (c .before .word3 .ensures) _ (simp (ne-eqb _ _ (none .0 .1), ne-eqb _ _ (none .1)))
+    _ (c .before .word3 .ensures) _
+    (simp (ne-eqb _ _ (none .0 .0 .0 .0 .1), ne-eqb _ _ (none .0 .0 .0 .1), ne-eqb _ _ (none .0 .0 .1), ne-eqb _ _ (none .0 .1), ne-eqb _ _ (none .1)))
 
 pub decode-header-spec : {M : Type 1} → statement M
 decode-header-spec =
@@ -50,4 +72,7 @@ decode-header-spec =
     (λ c κs. search needs)
     returns-3
     returns-4
-    returns-5)
+    returns-5
+    returns-6
+    returns-7
+    returns-8)

@@ -1,10 +1,11 @@
 -- `accept_built` meets its contract: at each exit the tests passed so far say which refusal it is. Assumes nothing.
 use borrow.Author.Needs.{needs}
 use mathlib.Core.Path.{_≡_, refl, sym, _∙_}
-use mathlib.Core.Bool.{true}
+use mathlib.Core.Bool.{Bool, true, false}
 use borrow.Author.Tests.{not-true, not-false}
-use Rattle.rules.specs.Existing.{spanValid, sizesPositive}
-use Rattle.existing.proofs.Winning.{accept-by}
+use Rattle.rules.specs.Existing.{spanValid, sizesPositive, acceptBuilt}
+use Rattle.rules.specs.declared.Acceptance.{Acceptance}
+use Rattle.existing.proofs.Winning.{builtBy, accept-by}
 use Rattle.existing.proofs.accept_built.Statement.{statement}
 use Rattle.existing.proofs.accept_built.Tie as tie
 
@@ -47,31 +48,31 @@ returns-3 c =
     (sym (asked .accept .ensures) ∙ told .refusal .given .1)
     refl)
 
-returns-4 : tie.Need-returns-4
-returns-4 c =
-    let known = c .before .before .before in
+-- with the data accepted, by the grid's test
+accepted-then :
+    (tested : tie.After-operated-on-grid) (g : Bool)
+    → tested .operated-on-grid .result ≡ g
+    → let known = tested .before .before in
+    let start = known .before .before .before .before .before .before .before in
+    acceptBuilt (start .args .plant) (start .args .readings) (start .args .existing) (start .args .span)
+    ≡ builtBy true true (Acceptance.Accepted (known .concentrations .given .0 .0)) g
+accepted-then tested g e =
+    let known = tested .before .before in
     let asked = known .before .before in
     let sized = asked .before in
     let passed = sized .before .before in
     let start = passed .before .before in
-    sym (accept-by (start .args .plant) (start .args .readings) (start .args .existing) (start .args .span) _ _ _ _
+    accept-by (start .args .plant) (start .args .readings) (start .args .existing) (start .args .span) _ _ _ _
     (valid passed)
     (positive sized)
     (sym (asked .accept .ensures) ∙ known .concentrations .given .1)
-    (sym (c .before .operated-on-grid .ensures) ∙ c .if3 .taken))
+    (sym (tested .operated-on-grid .ensures) ∙ e)
+
+returns-4 : tie.Need-returns-4
+returns-4 c = sym (accepted-then (c .before) true (c .if3 .taken))
 
 returns-5 : tie.Need-returns-5
-returns-5 c =
-    let known = c .before .before .before in
-    let asked = known .before .before in
-    let sized = asked .before in
-    let passed = sized .before .before in
-    let start = passed .before .before in
-    sym (accept-by (start .args .plant) (start .args .readings) (start .args .existing) (start .args .span) _ _ _ _
-    (valid passed)
-    (positive sized)
-    (sym (asked .accept .ensures) ∙ known .concentrations .given .1)
-    (sym (c .before .operated-on-grid .ensures) ∙ c .if3 .left))
+returns-5 c = sym (accepted-then (c .before) false (c .if3 .left))
 
 pub accept-built-spec : {M : Type 1} → statement M
 accept-built-spec =

@@ -80,10 +80,13 @@ pub fn no_design(cases: &mut Collection, random: &mut Random) {
 /// not.
 pub fn pages(cases: &mut Collection) {
     let plant = super::cod::roomy_by_cod();
-    for operation in [Operation::Examine, Operation::Choose] {
-        let exact = super::pages::listing_length(operation, plant);
-        cases.on_page("COD way, exact page", operation, plant, exact);
-        cases.on_page("COD way, short page", operation, plant, exact - 1);
+    for (operation, request) in [
+        (Operation::Examine, plant.examine_bytes()),
+        (Operation::Choose, plant.choose_bytes()),
+    ] {
+        let exact = super::pages::listing_length(operation, &request);
+        cases.on_page("COD way, exact page", operation, &request, exact);
+        cases.on_page("COD way, short page", operation, &request, exact - 1);
     }
 }
 

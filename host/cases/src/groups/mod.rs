@@ -1,5 +1,7 @@
 //! The groups of stored cases.
 
+mod built_orders;
+mod built_tanks;
 mod bulking;
 mod choices;
 mod cod;
@@ -13,6 +15,8 @@ mod kinds;
 mod nitrate;
 mod pages;
 mod pauses;
+mod price_calls;
+mod prices;
 mod readings;
 mod settling;
 mod term_choices;
@@ -30,56 +34,73 @@ const SEED: u64 = 131;
 pub fn all() -> Collection {
     let mut cases = Collection::default();
     let mut random = Random::new(SEED);
-    edges::worked(&mut cases);
-    edges::plant_ranges(&mut cases);
-    edges::grid(&mut cases);
-    edges::malformed(&mut cases);
-    readings::ranges(&mut cases, &mut random);
-    readings::head_counts(&mut cases);
-    readings::boundaries(&mut cases);
-    readings::odd_numbers(&mut cases);
-    readings::rounding(&mut cases, &mut random);
-    readings::cod_ratio(&mut cases);
-    readings::cod_ratio_by_heads(&mut cases);
-    readings::order(&mut cases);
-    degrees::growth_steps(&mut cases);
-    degrees::decay_steps(&mut cases, &mut random);
-    nitrate::cover(&mut cases, &mut random);
-    settling::tanks(&mut cases, &mut random);
-    settling::site(&mut cases, &mut random);
-    choices::ties(&mut cases, &mut random);
-    choices::heavier_first(&mut cases, &mut random);
-    choices::no_design(&mut cases, &mut random);
-    choices::site_limits(&mut cases, &mut random);
-    kinds::combinations(&mut cases);
-    pages::lengths(&mut cases);
-    choices::plain(&mut cases, &mut random);
-    dose::order(&mut cases);
-    dose::cover(&mut cases, &mut random);
-    dose::saved_oxygen(&mut cases);
-    dose::designs(&mut cases, &mut random);
-    dose::lower_fractions(&mut cases, &mut random);
-    terms::ranges(&mut cases);
-    terms::order(&mut cases);
-    term_lines::cover(&mut cases, &mut random);
-    term_lines::fraction_200(&mut cases, &mut random);
-    term_lines::nitrification(&mut cases, &mut random);
-    term_degrees::just_lost(&mut cases);
-    term_degrees::degrees(&mut cases);
-    term_lines::dose(&mut cases, &mut random);
-    term_lines::as_design(&mut cases, &mut random);
-    term_choices::choices(&mut cases, &mut random);
-    term_choices::no_design(&mut cases, &mut random);
-    term_choices::four(&mut cases, &mut random);
-    term_choices::plain(&mut cases, &mut random);
-    bulking::index(&mut cases);
-    bulking::order(&mut cases);
-    pauses::one_rounding(&mut cases, &mut random);
-    pauses::ends(&mut cases);
-    pauses::choices(&mut cases, &mut random);
-    settling::finer(&mut cases, &mut random);
+    rules(&mut cases, &mut random);
+    doses_and_terms(&mut cases, &mut random);
+    finer_rules(&mut cases, &mut random);
     by_cod(&mut cases, &mut random);
+    of_built_tanks(&mut cases);
+    of_prices(&mut cases);
     cases
+}
+
+/// The cases about the rules of a candidate and the order of a choice.
+fn rules(cases: &mut Collection, random: &mut Random) {
+    edges::worked(cases);
+    edges::plant_ranges(cases);
+    edges::grid(cases);
+    edges::malformed(cases);
+    readings::ranges(cases, random);
+    readings::head_counts(cases);
+    readings::boundaries(cases);
+    readings::odd_numbers(cases);
+    readings::rounding(cases, random);
+    readings::cod_ratio(cases);
+    readings::cod_ratio_by_heads(cases);
+    readings::order(cases);
+    degrees::growth_steps(cases);
+    degrees::decay_steps(cases, random);
+    nitrate::cover(cases, random);
+    settling::tanks(cases, random);
+    settling::site(cases, random);
+    choices::ties(cases, random);
+    choices::heavier_first(cases, random);
+    choices::no_design(cases, random);
+    choices::site_limits(cases, random);
+    kinds::combinations(cases);
+    pages::lengths(cases);
+    choices::plain(cases, random);
+}
+
+/// The cases with a dose or with terms.
+fn doses_and_terms(cases: &mut Collection, random: &mut Random) {
+    dose::order(cases);
+    dose::cover(cases, random);
+    dose::saved_oxygen(cases);
+    dose::designs(cases, random);
+    dose::lower_fractions(cases, random);
+    terms::ranges(cases);
+    terms::order(cases);
+    term_lines::cover(cases, random);
+    term_lines::fraction_200(cases, random);
+    term_lines::nitrification(cases, random);
+    term_degrees::just_lost(cases);
+    term_degrees::degrees(cases);
+    term_lines::dose(cases, random);
+    term_lines::as_design(cases, random);
+    term_choices::choices(cases, random);
+    term_choices::no_design(cases, random);
+    term_choices::four(cases, random);
+    term_choices::plain(cases, random);
+}
+
+/// The cases about bulking sludge, pauses and the finer bottom sludge.
+fn finer_rules(cases: &mut Collection, random: &mut Random) {
+    bulking::index(cases);
+    bulking::order(cases);
+    pauses::one_rounding(cases, random);
+    pauses::ends(cases);
+    pauses::choices(cases, random);
+    settling::finer(cases, random);
 }
 
 /// The cases in the COD way.
@@ -104,4 +125,35 @@ fn by_cod(cases: &mut Collection, random: &mut Random) {
     cod_choices::no_design(cases, random);
     cod_choices::pages(cases);
     cod_choices::plain(cases, random);
+}
+
+/// The cases of built tanks, which have seeds of their own.
+fn of_built_tanks(cases: &mut Collection) {
+    built_tanks::sizes(cases);
+    built_tanks::zero_sizes(cases);
+    built_tanks::spans(cases);
+    built_tanks::own_indices(cases);
+    built_tanks::neighbours(cases);
+    built_tanks::widest_spans(cases);
+    built_tanks::sites(cases);
+    built_tanks::permitted(cases);
+    built_orders::order(cases);
+    built_orders::grid(cases);
+    built_orders::pages(cases);
+    built_orders::malformed(cases);
+}
+
+/// The cases of prices, likewise.
+fn of_prices(cases: &mut Collection) {
+    let plants = prices::plants();
+    prices::limits(cases, &plants);
+    prices::metres(cases);
+    prices::bands(cases);
+    prices::entries(cases);
+    prices::surcharges(cases);
+    price_calls::refusals(cases);
+    price_calls::no_design(cases);
+    price_calls::choices(cases, &plants);
+    price_calls::pages(cases);
+    price_calls::malformed(cases);
 }
