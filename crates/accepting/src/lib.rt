@@ -1,5 +1,7 @@
 // Document 01, "Plant data and site" and "Lab readings": plant data and readings accepted, or refused with 1, 17, 2
 // to 4 or 14.
+#![tactic(auto)]
+
 ghost use Rattle.std.specs.Prelude.{◌≡◌, ◌<◌, ◌≤◌, ◌^◌};
 ghost use Rattle.std.specs.Float.Ieee.Nearest.{closest};
 ghost use Rattle.rules.specs.PlantData.{plant_in_range};
@@ -14,7 +16,7 @@ use rules::{
 };
 
 // What an f32 is in thousandths: no number, at or above the cut-off 2^23, or its thousandths.
-#[derive(Drop)]
+#[derive(Clone, Copy)]
 pub enum Measurement {
     NoNumber,
     TooLarge,
@@ -22,7 +24,7 @@ pub enum Measurement {
 }
 
 // What converting one reading gives: its thousandths of mg/l, or a refusal.
-#[derive(Drop)]
+#[derive(Clone, Copy)]
 pub enum Converted {
     Value(u64),
     Refused(Refusal),

@@ -1,4 +1,6 @@
 // Aeration and recirculation: the oxygen that a reactor needs, and the flow that a pre-anoxic one returns.
+#![tactic(auto)]
+
 ghost use Rattle.std.specs.Prelude.{◌≡◌, ◌-◌, ◌*◌, ◌≤◌};
 ghost use Rattle.rules.specs.Rounding.{up};
 ghost use Rattle.rules.specs.Limits.{most_nitrogen, most_oxygen};

@@ -1,6 +1,8 @@
 // The census of the grid: how many candidates get each numbered answer. A candidate's first broken rule is its fraction's, or
 // its settling tank's where the fraction keeps its own; so fractions and tanks are tallied apart, each once, and the counts
 // are products.
+#![tactic(auto)]
+
 ghost use Rattle.std.specs.Prelude.{◌≡◌, ◌+◌, ◌-◌, ◌*◌, ◌≤◌, ◌<◌};
 ghost use Rattle.rules.specs.Limits.{least_ratio, most_ratio, least_time, most_time};
 ghost use Rattle.rules.specs.Sums.{span, values_from};

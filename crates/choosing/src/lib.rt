@@ -1,5 +1,7 @@
 // Choosing: the least permitted design of the whole grid, or that there is none. What depends on the fraction alone is
 // computed once for each fraction, what depends on the settling tank alone once for each tank.
+#![tactic(auto)]
+
 ghost use Rattle.std.specs.Prelude.{◌≡◌, ◌≤◌, ◌<◌, length, get_or};
 ghost use Rattle.rules.specs.SettlingSteps.{thickening_root, bottom_sludge};
 ghost use Rattle.rules.specs.AgeNitrate.{largest_return_ratio};
@@ -13,7 +15,7 @@ ghost use Rattle.choosing.specs.Keys.{key_candidate, kept_mass, tank_of, TankMos
 use rules::{Acceptance, Answer, Candidate, Concentrations, Plant, Readings, Refusal, Verdict};
 
 // What the sweep's table holds of one settling tank.
-#[derive(Drop)]
+#[derive(Clone, Copy)]
 pub struct Tank {
     // E', or 0 where the tank breaks a rule
     pub solids: u64,

@@ -1,5 +1,7 @@
 // Sludge and oxygen from COD, by the appendix of A 131E as docs/cod-way.md condenses it: one balance, whose equations are rounded
 // up or down as the chain asks that it stands in.
+#![tactic(auto)]
+
 ghost use Rattle.std.specs.Prelude.{◌≡◌, ◌-◌, ◌*◌, ◌≤◌, ◌<◌};
 ghost use Rattle.rules.specs.CodBalance.{rounded, inert_of_solids, inert_soluble, degradable_cod, dosed_cod, sludge_as_cod, inorganic_solids, carbon_sludge_by_cod, oxygen_by_cod, carbon_oxygen_by_cod, removed_by_oxygen};
 ghost use Rattle.rules.specs.Limits.{most_fraction, most_dose, most_removes};

@@ -1,6 +1,8 @@
 // Answers records from standard input by the calls for C, at most 10,000 of them, and prints what each call gives. A record is
 // a header of three words, an operation (0 to examine, 1 to choose, 2 for existing tanks, 3 and 4 for the price of the design chosen and of
 // a candidate), a page's length and a request's, and then the request.
+#![tactic(auto)]
+
 ghost use Rattle.std.specs.Prelude.{◌≡◌, ◌≤◌, length};
 ghost use Rattle.request.specs.Frames.{longest_request};
 ghost use Rattle.putting.specs.Outcomes.{outcome};
@@ -10,7 +12,7 @@ use libc::{STDIN_FILENO, STDOUT_FILENO};
 use request::LONGEST_REQUEST;
 
 // What a record asks for.
-#[derive(Drop)]
+#[derive(Clone, Copy)]
 pub enum Operation {
     Examine,
     Choose,
@@ -20,7 +22,7 @@ pub enum Operation {
 }
 
 // A record's header: the operation, the request's length and the page's, or one that no record has.
-#[derive(Drop)]
+#[derive(Clone, Copy)]
 pub enum Header {
     Record {
         operation: Operation,
@@ -31,7 +33,7 @@ pub enum Header {
 }
 
 // What a call gives besides the page: its number, and how many bytes it wrote.
-#[derive(Drop)]
+#[derive(Clone, Copy)]
 pub struct Reply {
     pub number: u32,
     pub written: usize,

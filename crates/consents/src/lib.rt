@@ -1,4 +1,6 @@
 // The terms of the consent: whether they are valid, and the lowest target in force on a day.
+#![tactic(auto)]
+
 ghost use Rattle.std.specs.Prelude.{◌≡◌, ◌||◌, leb};
 ghost use Rattle.rules.specs.Consent.{days_of, date_valid, not_after, in_force, term_valid, consent_valid, lower_of, target_on};
 ghost use Rattle.consents.specs.Entries.{lowered};

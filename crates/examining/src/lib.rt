@@ -1,4 +1,6 @@
 // Examining a candidate: the refusal of the data, the first rule that the candidate breaks, or its complete sheet.
+#![tactic(auto)]
+
 ghost use Rattle.std.specs.Prelude.{◌≡◌};
 ghost use Rattle.rules.specs.AgeNitrate.{largest_return_ratio, on_grid};
 ghost use Rattle.rules.specs.Limits.{most_ratio};
@@ -14,7 +16,7 @@ use rules::{
 };
 
 // What a candidate on the grid is judged by.
-#[derive(Drop)]
+#[derive(Clone, Copy)]
 pub struct Stages {
     pub reactor: Reactor,
     pub seasons: reactor::Seasons,

@@ -1,6 +1,8 @@
 // Existing tanks against a moody sludge: whether at each sludge volume index of a span some return ratio is permitted and needs no
 // more than is built, or the smallest index at which none is. The reactor does not know the index and is computed once; each index is
 // tried by itself, since one that is won says nothing of the next.
+#![tactic(auto)]
+
 ghost use Rattle.std.specs.Prelude.{◌≡◌, ◌≤◌, T};
 ghost use Rattle.rules.specs.Limits.{most_mass};
 ghost use Rattle.rules.specs.Ranges.{Index, GridRatio, GridTime, PlantRanges, ConcentrationRanges};

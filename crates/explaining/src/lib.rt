@@ -1,5 +1,7 @@
 // Explaining a candidate: the two nitrate columns, here and in each term of the consent, the figures that the rules 8 to 10 ask
 // of, and the first rule that is broken, whatever it is.
+#![tactic(auto)]
+
 ghost use Rattle.std.specs.Prelude.{◌≡◌};
 ghost use Rattle.rules.specs.Ranges.{OnGrid, PlantRanges, ConcentrationRanges};
 ghost use Rattle.rules.specs.Explaining.{candidate_explained, explain_candidate, explain};

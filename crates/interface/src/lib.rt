@@ -1,5 +1,7 @@
 // The calls for C: a request's bytes in; out the answer's number, its listing or its figures on a page that the caller
 // lends, and the number of bytes written there.
+#![tactic(auto)]
+
 ghost use Rattle.std.specs.Prelude.{◌≡◌, ◌≤◌, length};
 ghost use Rattle.rules.specs.Limits.{most_lines};
 ghost use Rattle.rules.specs.Answers.{verdict_number, target_number, target_value};

@@ -1,5 +1,7 @@
 // The listing of an answer on a page that the caller lends. A listing is a form filled in: a text with a mark in each place
 // where a figure goes.
+#![tactic(auto)]
+
 ghost use Rattle.std.specs.Prelude.{◌≡◌, ◌+◌, ◌≤◌, length};
 ghost use Rattle.rules.specs.Answers.{refusal_number, sheet_figures};
 ghost use Rattle.rules.specs.Listing.{listing, numeral};

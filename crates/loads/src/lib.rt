@@ -1,4 +1,6 @@
 // The highest load of a day log over 14 consecutive days, in one pass: each window's sum from the one before.
+#![tactic(auto)]
+
 ghost use Rattle.std.specs.Prelude.{◌≡◌, ◌≤◌};
 ghost use Rattle.rules.specs.DayLog.{day_count, most_flow, most_bod, log_whole, higher, two_week_load};
 ghost use Rattle.rules.specs.DayLogOutcome.{Whole};
@@ -13,14 +15,14 @@ const MOST_FLOW: u64 = 200_000_000;
 const MOST_BOD: u64 = 2_000_000;
 
 // A figure as it is counted, 0 where it is refused, and whether it is kept.
-#[derive(Drop)]
+#[derive(Clone, Copy)]
 pub struct Counted {
     pub figure: u64,
     pub kept: bool,
 }
 
 // The last 14 days of a pass over the log, and what it has found.
-#[derive(Drop)]
+#[derive(Clone, Copy)]
 pub struct Window {
     // the days' loads: day d's at (d - 1) % 14, and 0 where there was no day yet
     pub loads: [u64; 14],

@@ -1,5 +1,7 @@
 // The calls that a host makes: each answers any arguments, and its contract equates its whole outcome with document 01;
 // once more, as `numbered`, it says what the number, the sheet, the figures and the count are.
+#![tactic(auto)]
+
 ghost use Rattle.std.specs.Prelude.{◌≡◌};
 ghost use Rattle.rules.specs.Examining.{examine};
 ghost use Rattle.rules.specs.Choosing.{Chosen};

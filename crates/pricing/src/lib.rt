@@ -1,5 +1,7 @@
 // The price of the concrete: what the two tanks of a sheet cost by a tariff, band by band, and the two calls that give it with the
 // sheet. The choice goes by volume and knows no price.
+#![tactic(auto)]
+
 ghost use Rattle.std.specs.Prelude.{◌≡◌, ◌*◌, ◌≤◌, T};
 ghost use Rattle.rules.specs.Limits.{most_bands, most_price, most_reactor};
 ghost use Rattle.rules.specs.Ranges.{VolumeBounds};

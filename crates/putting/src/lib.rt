@@ -1,5 +1,7 @@
 // What every call for C ends in: an answer's listing or figures put on the page that the caller lends, the number of bytes written
 // there, and the number that goes with them.
+#![tactic(auto)]
+
 ghost use Rattle.std.specs.Prelude.{◌≡◌};
 ghost use Rattle.rules.specs.Answers.{refusal_number, answer_number};
 ghost use Rattle.words.specs.Bytes.{number_bytes};

@@ -1,4 +1,6 @@
 // The calls for a price: a request's bytes in; out the answer's number, and on the page the figures of the sheet and its price.
+#![tactic(auto)]
+
 ghost use Rattle.std.specs.Prelude.{◌≡◌, ◌+◌, ◌*◌, ◌≤◌, length};
 ghost use Rattle.rules.specs.Answers.{price_number, price_figures};
 ghost use Rattle.request.specs.Frames.{data_words, candidate_words};

@@ -1,4 +1,6 @@
 // What depends on the denitrification fraction alone: sludge age, nitrate and sludge.
+#![tactic(auto)]
+
 mod age;
 mod nitrate;
 mod once;
@@ -21,7 +23,7 @@ pub use terms::{explained_in, seasons_of};
 pub use volume::{reactor_solids, reactor_volume};
 
 // What the design or a term of the consent asks of a reactor, whatever the fraction.
-#[derive(Drop)]
+#[derive(Clone, Copy)]
 pub struct Season {
     // degrees
     pub temperature: u64,
@@ -34,7 +36,7 @@ pub struct Season {
 }
 
 // What the inflow asks of a reactor, whatever the fraction.
-#[derive(Drop)]
+#[derive(Clone, Copy)]
 pub struct Inflow {
     // W, nitrogen to nitrify, mg/m3
     pub nitrified: u64,
@@ -48,7 +50,7 @@ pub struct Inflow {
 
 // What does not depend on the fraction: the inflow's figures, the design, and the terms of the consent, as many as the count
 // says, zeros past it.
-#[derive(Drop)]
+#[derive(Clone, Copy)]
 pub struct Seasons {
     pub inflow: Inflow,
     pub design: Season,

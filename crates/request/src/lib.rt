@@ -1,4 +1,6 @@
 // A request's bytes decoded by the layout of the newest version, or found malformed.
+#![tactic(auto)]
+
 ghost use Rattle.std.specs.Prelude.{◌≡◌, ◌+◌, ◌*◌, ◌≤◌, length};
 ghost use Rattle.request.specs.Kinds.{process_of, precipitant_of, tank_flow_of, removal_of, primary_settling_of, way_of, reading_of};
 ghost use Rattle.request.specs.Frames.{plant_words, term_words, consent_words, data_words, request_length, longest_request, candidate_words, works_words, line_words};
@@ -12,7 +14,7 @@ use rules::{
 };
 
 // What every request with plant data holds besides its call's own words.
-#[derive(Drop)]
+#[derive(Clone, Copy)]
 pub struct Data {
     pub plant: Plant,
     pub readings: Readings,
@@ -20,7 +22,7 @@ pub struct Data {
 
 // What is wrong with a malformed request: its length, its version, or a kind's code. The version is tested first, where
 // there is one.
-#[derive(Drop)]
+#[derive(Clone, Copy)]
 pub enum Fault {
     Length,
     Version,
@@ -28,28 +30,28 @@ pub enum Fault {
 }
 
 // What decoding gives: what the request holds, or what is wrong with it.
-#[derive(Drop)]
+#[derive(Clone, Copy)]
 pub enum Decoded {
     Data(Data),
     Malformed(Fault),
 }
 
 // What a request for the target of a date holds.
-#[derive(Drop)]
+#[derive(Clone, Copy)]
 pub struct Inquiry {
     pub consent: Consent,
     pub date: Date,
 }
 
 // What decoding such a request gives.
-#[derive(Drop)]
+#[derive(Clone, Copy)]
 pub enum DecodedInquiry {
     Inquiry(Inquiry),
     Malformed(Fault),
 }
 
 // Whether a request has the newest version and its length.
-#[derive(Drop)]
+#[derive(Clone, Copy)]
 pub enum Frame {
     Whole,
     Malformed(Fault),

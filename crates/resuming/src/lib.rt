@@ -1,4 +1,6 @@
 // The calls on a sweep whose state is bytes that the caller keeps: a start, an advance, and an examination. Any bytes are answered.
+#![tactic(auto)]
+
 ghost use Rattle.std.specs.Prelude.{◌≡◌, ◌∷◌, ◌*◌, ◌≤◌, length};
 ghost use Rattle.std.proofs.lemmas.List.Edits.{sets};
 ghost use Rattle.words.specs.Bytes.{word_bytes};

@@ -1,4 +1,6 @@
 // Arithmetic that several steps share: a quotient rounded up, a difference held at 0, the larger of two, a range, a wider number.
+#![tactic(auto)]
+
 ghost use Rattle.std.specs.Prelude.{◌≡◌, ◌+◌, ◌-◌, ◌^◌, ◌≤◌, ◌<◌, max};
 ghost use Rattle.rules.specs.Rounding.{up};
 ghost use Rattle.rules.specs.PlantData.{within};

@@ -69,7 +69,7 @@ built_in_order p r e span = refl
 -- every refusal by its number: not 0, and small enough for a place of its own in a census
 small : (n : Refusal) → T (within 1 31 (refusal_number n))
 small n =
-    elim n [
+    elim n as (λ k. T (within 1 31 (refusal_number k))) [
       | Refusal.PlantData ↦ tt
       | Refusal.NoNumber ↦ tt
       | Refusal.ReadingRange ↦ tt

@@ -1,5 +1,6 @@
 // The types of document 01: plant data, lab readings, candidates, sheets and answers. The definitions over them are
 // in specs/. No function stands here.
+#![tactic(auto)]
 
 // The ends of the grid, and the figures' ends that the code names in several places.
 pub const LEAST_FRACTION: u32 = 200;
@@ -32,14 +33,14 @@ pub const MOST_NITRATE_TARGET: u32 = 50_000;
 pub const MOST_TERMS: u32 = 4;
 
 // Step-feed denitrification in two or in three steps.
-#[derive(Drop)]
+#[derive(Clone, Copy)]
 pub enum Steps {
     Two,
     Three,
 }
 
 // The denitrification process.
-#[derive(Drop)]
+#[derive(Clone, Copy)]
 pub enum Process {
     PreAnoxic,
     Simultaneous,
@@ -48,21 +49,21 @@ pub enum Process {
 }
 
 // The precipitant for phosphorus.
-#[derive(Drop)]
+#[derive(Clone, Copy)]
 pub enum Precipitant {
     Iron,
     Aluminium,
 }
 
 // The direction of flow through the secondary settling tank.
-#[derive(Drop)]
+#[derive(Clone, Copy)]
 pub enum TankFlow {
     Horizontal,
     Vertical,
 }
 
 // How the settled sludge is removed from the tank's bottom.
-#[derive(Drop)]
+#[derive(Clone, Copy)]
 pub enum Removal {
     Scraper,
     Suction,
@@ -70,7 +71,7 @@ pub enum Removal {
 }
 
 // The retention in primary settling: a column of Table 1.
-#[derive(Drop)]
+#[derive(Clone, Copy)]
 pub enum PrimarySettling {
     None,
     Short,
@@ -78,14 +79,14 @@ pub enum PrimarySettling {
 }
 
 // What sludge and oxygen are reckoned from.
-#[derive(Drop)]
+#[derive(Clone, Copy)]
 pub enum Way {
     Bod,
     Cod,
 }
 
 // A day of the year.
-#[derive(Drop)]
+#[derive(Clone, Copy)]
 pub struct Date {
     pub month: u32,
     pub day: u32,
@@ -93,7 +94,7 @@ pub struct Date {
 
 // A term of the consent: it runs from its first to its last day, both included; over the new year where the last day comes
 // before the first.
-#[derive(Drop)]
+#[derive(Clone, Copy)]
 pub struct Term {
     pub first: Date,
     pub last: Date,
@@ -104,7 +105,7 @@ pub struct Term {
 }
 
 // The terms of the consent: the first of the four entries, as many as the count says.
-#[derive(Drop)]
+#[derive(Clone, Copy)]
 pub struct Consent {
     pub count: u32,
     pub first: Term,
@@ -114,7 +115,7 @@ pub struct Consent {
 }
 
 // Plant data and site, each figure in document 01's unit.
-#[derive(Drop)]
+#[derive(Clone, Copy)]
 pub struct Plant {
     // L, raw BOD5 load, kg/d
     pub load: u32,
@@ -154,7 +155,7 @@ pub struct Plant {
 }
 
 // What a lab reading is of.
-#[derive(Drop)]
+#[derive(Clone, Copy)]
 pub enum Parameter {
     Bod,
     Cod,
@@ -164,7 +165,7 @@ pub enum Parameter {
 }
 
 // A lab reading: measured in mg/l, below a limit in mg/l, or taken from a head count.
-#[derive(Drop)]
+#[derive(Clone, Copy)]
 pub enum Reading {
     Measured(f32),
     Below(f32),
@@ -172,7 +173,7 @@ pub enum Reading {
 }
 
 // The five readings, in document 01's order.
-#[derive(Drop)]
+#[derive(Clone, Copy)]
 pub struct Readings {
     pub bod: Reading,
     pub cod: Reading,
@@ -182,7 +183,7 @@ pub struct Readings {
 }
 
 // The accepted results of the readings, mg/m3: C, COD, X, N and P.
-#[derive(Drop)]
+#[derive(Clone, Copy)]
 pub struct Concentrations {
     pub bod: u64,
     pub cod: u64,
@@ -193,7 +194,7 @@ pub struct Concentrations {
 
 // Document 01's "candidate": a denitrification fraction f in thousandths, a return ratio r in hundredths, and a
 // thickening time h in tenths of an hour.
-#[derive(Drop)]
+#[derive(Clone, Copy)]
 pub struct Candidate {
     pub fraction: u32,
     pub return_ratio: u32,
@@ -201,7 +202,7 @@ pub struct Candidate {
 }
 
 // The figures that depend on the fraction alone.
-#[derive(Drop)]
+#[derive(Clone, Copy)]
 pub struct Reactor {
     // f, thousandths
     pub fraction: u64,
@@ -222,7 +223,7 @@ pub struct Reactor {
 }
 
 // The figures that depend on the return ratio and the thickening time alone.
-#[derive(Drop)]
+#[derive(Clone, Copy)]
 pub struct Settling {
     // E, g/m3
     pub solids: u64,
@@ -237,7 +238,7 @@ pub struct Settling {
 }
 
 // The figures of aeration and recirculation.
-#[derive(Drop)]
+#[derive(Clone, Copy)]
 pub struct Aeration {
     // thousandths of the daily flow
     pub recirculation: u64,
@@ -248,7 +249,7 @@ pub struct Aeration {
 }
 
 // Document 01's "sheet": the fifteen figures of a listing, in its order.
-#[derive(Drop)]
+#[derive(Clone, Copy)]
 pub struct Sheet {
     pub fraction: u64,
     pub return_ratio: u64,
@@ -268,7 +269,7 @@ pub struct Sheet {
 }
 
 // The refusals, in the order of their numbers.
-#[derive(Drop)]
+#[derive(Clone, Copy)]
 pub enum Refusal {
     PlantData,
     NoNumber,
@@ -295,35 +296,35 @@ pub enum Refusal {
 }
 
 // What a list of rules says: all of them are kept, or the refusal of the first that is broken.
-#[derive(Drop)]
+#[derive(Clone, Copy)]
 pub enum Verdict {
     Kept,
     Broken(Refusal),
 }
 
 // What plant data and readings get: document 01's "accepted", with the concentrations, or the first refusal due.
-#[derive(Drop)]
+#[derive(Clone, Copy)]
 pub enum Acceptance {
     Accepted(Concentrations),
     Refused(Refusal),
 }
 
 // What examining and choosing answer: a complete sheet, or one refusal.
-#[derive(Drop)]
+#[derive(Clone, Copy)]
 pub enum Answer {
     Designed(Sheet),
     Refused(Refusal),
 }
 
 // What writing answers: the number of bytes written, or a refusal.
-#[derive(Drop)]
+#[derive(Clone, Copy)]
 pub enum Written {
     Bytes(usize),
     Refused(Refusal),
 }
 
 // What the target of a date is answered with: the lowest target in force, that no term runs, or a refusal.
-#[derive(Drop)]
+#[derive(Clone, Copy)]
 pub enum TargetAnswer {
     InForce(u32),
     NoTerm,
@@ -331,7 +332,7 @@ pub enum TargetAnswer {
 }
 
 // The figures that explain a candidate in one term of the consent.
-#[derive(Drop)]
+#[derive(Clone, Copy)]
 pub struct TermExplained {
     // up(1000a / t): what nitrification needs of the sludge age, thousandths
     pub aerobic_share: u64,
@@ -346,7 +347,7 @@ pub struct TermExplained {
 }
 
 // The figures that explain a candidate, whatever the rules 7 to 10, 15 and 16 say of it.
-#[derive(Drop)]
+#[derive(Clone, Copy)]
 pub struct Explained {
     // D, nitrate to be removed, mg/m3
     pub denitrified: u64,
@@ -373,7 +374,7 @@ pub struct Explained {
 }
 
 // What explaining a candidate answers: its figures, or one refusal of the data's rules and 6.
-#[derive(Drop)]
+#[derive(Clone, Copy)]
 pub enum Explanation {
     Figures(Explained),
     Refused(Refusal),
@@ -383,7 +384,7 @@ pub enum Explanation {
 pub const ANSWER_NUMBERS: usize = 32;
 
 // What the census of the grid answers: 0 and the counts, or a refusal's number and zeros.
-#[derive(Drop)]
+#[derive(Clone, Copy)]
 pub struct Census {
     pub number: u64,
     // at k how many candidates of the grid are answered with k: at 0 the permitted ones, at a rule's number those of which
@@ -396,14 +397,14 @@ pub const MOST_LINES: usize = 8;
 
 // How a works is split into lines: how many there are, and each one's share in thousandths. Entries past the count are not
 // looked at.
-#[derive(Drop)]
+#[derive(Clone, Copy)]
 pub struct Split {
     pub count: u32,
     pub shares: [u32; MOST_LINES],
 }
 
 // Figures of the sheets of a works' lines, added up.
-#[derive(Drop)]
+#[derive(Clone, Copy)]
 pub struct Sums {
     pub sludge: u64,
     pub mass: u64,
@@ -416,7 +417,7 @@ pub struct Sums {
 }
 
 // What a works is answered with: every line has a sheet, and the sums and the sheets; or a refusal, and zeros.
-#[derive(Drop)]
+#[derive(Clone, Copy)]
 pub struct Works {
     pub verdict: Verdict,
     pub sums: Sums,
@@ -428,14 +429,14 @@ pub struct Works {
 pub const MOST_ADVANCE: u32 = 1_000;
 
 // The best permitted candidate of a sweep so far.
-#[derive(Drop)]
+#[derive(Clone, Copy)]
 pub enum Best {
     NoneYet,
     At(Candidate),
 }
 
 // What an advance of a sweep answers: a refusal; that the sweep is unfinished, with the best so far; or what choosing answers.
-#[derive(Drop)]
+#[derive(Clone, Copy)]
 pub enum Progress {
     Refused(Refusal),
     Unfinished(Best),
@@ -443,7 +444,7 @@ pub enum Progress {
 }
 
 // What is built of a standing works, and the fraction and the thickening time that it is operated with.
-#[derive(Drop)]
+#[derive(Clone, Copy)]
 pub struct Existing {
     // reactor volume, m3
     pub reactor: u32,
@@ -458,7 +459,7 @@ pub struct Existing {
 }
 
 // The sludge volume indices from the least to the most, l/kg.
-#[derive(Drop)]
+#[derive(Clone, Copy)]
 pub struct IndexSpan {
     pub least: u32,
     pub most: u32,
@@ -466,7 +467,7 @@ pub struct IndexSpan {
 
 // What existing tanks are answered with: they hold at every index of the span; the smallest index at which they are lost; or a
 // refusal.
-#[derive(Drop)]
+#[derive(Clone, Copy)]
 pub enum BuiltAnswer {
     Held,
     Lost(u32),
@@ -483,7 +484,7 @@ pub const MOST_SURCHARGE: u32 = 500;
 
 // What concrete costs by the cubic metre: as many bands as the count says, each with an upper limit and a price; the last of them has no
 // limit. Entries past the count are not looked at.
-#[derive(Drop)]
+#[derive(Clone, Copy)]
 pub struct Tariff {
     pub count: u32,
     // m3
@@ -495,7 +496,7 @@ pub struct Tariff {
 }
 
 // A sheet and what its two tanks cost.
-#[derive(Drop)]
+#[derive(Clone, Copy)]
 pub struct PricedSheet {
     pub sheet: Sheet,
     // cents
@@ -503,14 +504,14 @@ pub struct PricedSheet {
 }
 
 // What a price is answered with: a sheet and its price, or a refusal.
-#[derive(Drop)]
+#[derive(Clone, Copy)]
 pub enum PriceAnswer {
     Priced(PricedSheet),
     Refused(Refusal),
 }
 
 // A day of the day log.
-#[derive(Drop)]
+#[derive(Clone, Copy)]
 pub struct Day {
     // m3/d
     pub flow: f32,
@@ -519,7 +520,7 @@ pub struct Day {
 }
 
 // A load over 14 consecutive days.
-#[derive(Drop)]
+#[derive(Clone, Copy)]
 pub struct TwoWeekLoad {
     // the sum of the days' loads: products of thousandths of m3/d and of mg/l
     pub sum: u64,
@@ -528,7 +529,7 @@ pub struct TwoWeekLoad {
 }
 
 // What the day log is answered with: its highest two-week load, or a refusal.
-#[derive(Drop)]
+#[derive(Clone, Copy)]
 pub enum LoadAnswer {
     Load(TwoWeekLoad),
     Refused(Refusal),

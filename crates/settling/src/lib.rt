@@ -1,4 +1,6 @@
 // The secondary settling tank: what depends on the return ratio and the thickening time alone.
+#![tactic(auto)]
+
 ghost use Rattle.std.specs.Prelude.{◌≡◌, ◌*◌, ◌≤◌, ◌<◌};
 ghost use Rattle.rules.specs.Limits.{least_bottom, most_bottom, least_returned, least_solids, most_solids, most_sludge_volume, most_surface, least_depth, most_depth, most_settling_volume};
 ghost use Rattle.rules.specs.Ranges.{Between, Index, GridRatio, GridTime, PlantRanges, SettlingBounds};

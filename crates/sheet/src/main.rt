@@ -1,4 +1,6 @@
 // Prints the listing of Case A at its candidate.
+#![tactic(auto)]
+
 ghost use Rattle.std.specs.Prelude.{◌≡◌};
 ghost use Rattle.rules.specs.Consent.{no_terms};
 ghost use Rattle.rules.specs.Cases.{case_a, readings_a, candidate};

@@ -1,5 +1,7 @@
 // The call on the existing tanks of a standing works: a request's bytes in; out the answer's number, and on the page the smallest
 // sludge volume index that is lost, or 0.
+#![tactic(auto)]
+
 ghost use Rattle.std.specs.Prelude.{◌≡◌, ◌≤◌, length};
 ghost use Rattle.rules.specs.Answers.{built_number, built_index};
 ghost use Rattle.request.specs.Frames.{request_length};

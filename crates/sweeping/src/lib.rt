@@ -1,5 +1,7 @@
 // A sweep that can be put down: a start on accepted data, advances by a number of candidates in the order of the sweep, and
 // examinations between them. Its state is the plant data, the readings, the number asked for and the best so far, and nothing else.
+#![tactic(auto)]
+
 ghost use Rattle.std.specs.Prelude.{◌≡◌, false, ◌+◌, ◌-◌, ◌≤◌, ◌<◌, min, T};
 ghost use Rattle.rules.specs.Limits.{most_advance, least_fraction, most_fraction, most_ratio, most_time, most_mass, most_figure};
 ghost use Rattle.rules.specs.AgeNitrate.{largest_return_ratio};
@@ -22,7 +24,7 @@ use rules::{
 };
 
 // What a sweep hands on.
-#[derive(Drop)]
+#[derive(Clone, Copy)]
 pub struct Sweep {
     pub plant: Plant,
     pub readings: Readings,
@@ -32,28 +34,28 @@ pub struct Sweep {
 }
 
 // What a start answers: the refusal of the data, or a sweep.
-#[derive(Drop)]
+#[derive(Clone, Copy)]
 pub enum Started {
     Refused(Refusal),
     Sweep(Sweep),
 }
 
 // The sweep after an advance, and what the advance answers.
-#[derive(Drop)]
+#[derive(Clone, Copy)]
 pub struct Advanced {
     pub sweep: Sweep,
     pub progress: Progress,
 }
 
 // A place of the sweep's order: the fraction, and the tank's place in the table.
-#[derive(Drop)]
+#[derive(Clone, Copy)]
 pub struct Spot {
     pub fraction: u32,
     pub tank: u32,
 }
 
 // The key of a best that is handed on, or that it is not permitted.
-#[derive(Drop)]
+#[derive(Clone, Copy)]
 pub enum Handed {
     Key(u64),
     NotPermitted,

@@ -1,5 +1,7 @@
 // Recomputes Tables 2, 5 and 7 of A 131E from the proved steps, and prints each value beside the printed one. Values are
 // rounded to the printed digits, a half up.
+#![tactic(auto)]
+
 mod print;
 mod values;
 
@@ -8,7 +10,7 @@ ghost use Rattle.tables.specs.Values.{Fits, agreeing_in};
 
 // A row of a table, by what the standard prints it for: in Table 2 a load and a temperature, with a column for each
 // fraction; in Table 5 a ratio X/C in tenths and in Table 7 a temperature, with a column for each sludge age.
-#[derive(Drop)]
+#[derive(Clone, Copy)]
 pub enum Row {
     Age(u64, u64),
     Production(u64),

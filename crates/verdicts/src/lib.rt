@@ -1,4 +1,6 @@
 // Verdicts on rules in order: one step of a list, and two lists one after the other.
+#![tactic(auto)]
+
 ghost use Rattle.std.specs.Prelude.{◌≡◌, cond};
 ghost use Rattle.rules.specs.Rules.{after};
 

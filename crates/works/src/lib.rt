@@ -1,5 +1,7 @@
 // Works in several lines: the whole works' data are accepted like one plant's, each line is chosen for as a plant of its own, and
 // the works is put together from its lines' answers.
+#![tactic(auto)]
+
 ghost use Rattle.std.specs.Prelude.{◌≡◌, ◌∷◌, ◌+◌, ◌-◌, ◌*◌, ◌≤◌, ◌<◌, T, length};
 ghost use Rattle.rules.specs.Rounding.{down};
 ghost use Rattle.rules.specs.Sums.{values_from};

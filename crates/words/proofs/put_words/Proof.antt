@@ -32,7 +32,7 @@ word-again c =
 returns : tie.Need-returns invariant-word decreases-word
 returns c =
     let head = c.before in
-    chunks_stored (low_bytes 4) head.before.before.before.args.words.now _ _ (head.before.before.before.args.at + 4 * head.word.i) head.word.i c.word_test.false head.word.invariant.2
+    chunks_stored (low_bytes 4) head.before.before.before.args.words.now _ _ (head.before.before.before.args.at + 4 * head.word.i) head.word.i c.word-test.false head.word.invariant.2
 
 pub put_words_spec : {M : Type 1} → statement M
 put_words_spec =

@@ -25,11 +25,11 @@ word-again : tie.Need-word-preserved invariant-word decreases-word
 word-again c =
     let head = c.before.before in
     let bytes = head.before.before.before.args.bytes.now in
-    let left = word_stored bytes head.word.words head.word.i _ _ c.before.word_test.true c.word2.ensures in
+    let left = word_stored bytes head.word.words head.word.i _ _ c.before.word-test.true c.word-in-word.ensures in
     (omega arith, search rules, left ∙ head.word.invariant.2)
 
 returns : tie.Need-returns invariant-word decreases-word
-returns c = words_stored _ _ c.before.before.before.before.args.words.now _ c.word_test.false c.before.word.invariant.2
+returns c = words_stored _ _ c.before.before.before.before.args.words.now _ c.word-test.false c.before.word.invariant.2
 
 pub read_words_spec : {M : Type 1} → statement M
 read_words_spec =

@@ -1,0 +1,118 @@
+#!/usr/bin/env python3
+"""Brings the names of goals, steps and places in a crate's Proof.antt files to those that today's Rattle makes.
+
+usage: rt check --generated NAMES --old-names   in the crate's folder, then
+       python3 tools/rename_goals.py CRATE NAMES [FUNCTION..]    once for each file
+
+A goal `tie.Need-X`, a place `tie.After-X` and a step `.x` are looked up under their old names, where `-` and `_` count as one. A lemma
+that is named after its goal follows it. What has two new names in one function is left, and printed.
+"""
+
+import json
+import os
+import re
+import sys
+
+
+def norm(name):
+    name = name.replace("_", "-")
+    return re.sub(r"^(overflow|nonzero|bounds)-", "", name)
+
+
+NAME = r"[\w'₀-₉+*-]+"
+
+
+def turn(path, names, label):
+    with open(path, encoding="utf-8") as f:
+        text = f.read()
+    needs = {norm(o): n for o, n in names["needs"]}
+    places, fields, clash = {}, {}, set()
+    new_places = names["places_by_name"]
+    for (old, parent, step, *rest), new in zip(names["places"], new_places):
+        places[norm(old)] = new
+        o, n = step
+        if o:
+            if fields.get(norm(o), n) != n:
+                clash.add(norm(o))
+            fields.setdefault(norm(o), n)
+
+    def need(m):
+        new = needs.get(norm(m.group(1)))
+        if new is None:
+            print(f"{label}: no goal {m.group(1)}")
+            return m.group(0)
+        return "tie.Need-" + new
+
+    text_local = {}
+    for m in re.finditer(r"(?m)^(" + NAME + r") : (?:\([^)]*\) → )?tie\.Need-(" + NAME + ")", text):
+        mine, goal = m.group(1), m.group(2)
+        new = needs.get(norm(goal))
+        if new and norm(mine) == norm(goal) and mine != new:
+            text_local[mine] = new
+    text = re.sub(r"\btie\.Need-(" + NAME + ")", need, text)
+
+    def place(m):
+        new = places.get(norm(m.group(1)))
+        if new is None:
+            if m.group(1).startswith(("Need-", "spec", "close", "invariant", "decreases", "tie", "measure")):
+                return m.group(0)
+            print(f"{label}: no place {m.group(1)}")
+            return m.group(0)
+        return "tie." + new
+
+    text = re.sub(r"\btie\.([A-Z]" + NAME + ")", place, text)
+    # simultaneously, since an old name may be another's new one
+    if text_local:
+        form = re.compile(r"(?<![\w'.-])(" + "|".join(sorted(map(re.escape, text_local), key=len, reverse=True)) + r")(?![\w'-])")
+        head, sep, body = text.partition("\n\n")
+        text = head + sep + form.sub(lambda m: text_local[m.group(1)], body)
+
+    # steps: after a place, that is a variable or `.before`
+    def piece(decl):
+        not_places = set()
+        for m in re.finditer(r"\blet (" + NAME + r")(?: : [^=]*?)? = ([\w.'+-]+) in", decl):
+            last = m.group(2).split(".")
+            if len(last) > 1 and last[-1] != "before":
+                not_places.add(m.group(1))
+
+        def path(m):
+            parts = m.group(0).split(".")
+            out = [parts[0]]
+            at_place = parts[0] not in not_places
+            for p in parts[1:]:
+                if at_place and p != "before":
+                    k = norm(p)
+                    if k in clash:
+                        print(f"{label}: {p} has two names, in {m.group(0)}: {[n for (_, _, s, *r) in names['places'] for o, n in [s] if norm(o) == k]}")
+                    elif k in fields:
+                        p = fields[k]
+                    at_place = False
+                out.append(p)
+            return ".".join(out)
+
+        return re.sub(r"(?<![\w.'-])[a-z]\w*(?:\.[\w'+-]+)+", path, decl)
+
+    blocks = re.split(r"(?m)(?=^\S)", text)
+    text = "".join(b if b.startswith(("use ", "--")) else piece(b) for b in blocks)
+    with open(path, "w", encoding="utf-8") as f:
+        f.write(text)
+
+
+def main():
+    crate, at, only = sys.argv[1], sys.argv[2], sys.argv[3:]
+    names = json.load(open(at if at.endswith(".json") else os.path.join(at, "names.json")))
+    for folder, dirs, files in os.walk(f"crates/{crate}/proofs"):
+        if "Proof.antt" not in files:
+            continue
+        label = os.path.relpath(folder, f"crates/{crate}/proofs").replace("/", ".")
+        if only and label not in only:
+            continue
+        key = f"Rattle-{crate}-proofs.{label}.Lts"
+        if key not in names:
+            print(f"{label}: no names for {key}")
+            continue
+        turn(os.path.join(folder, "Proof.antt"), names[key], label)
+
+
+if __name__ == "__main__":
+    sys.exit(main())
