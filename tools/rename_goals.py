@@ -2,9 +2,9 @@
 """Brings the names of goals, steps and places in a crate's Proof.antt files to those that today's Rattle makes.
 
 usage: rt check --generated NAMES --old-names   in the crate's folder, then
-       python3 tools/rename_goals.py CRATE NAMES [FUNCTION..]    once for each file
+       python3 tools/rename_goals.py [--flat] CRATE NAMES [FUNCTION..]    once for each file
 
-A goal `tie.Need-X`, a place `tie.After-X` and a step `.x` are looked up under their old names, where `-` and `_` count as one. A lemma
+With --flat each `.before` in front of a step goes, since a step is found from any later place. A goal `tie.Need-X`, a place `tie.After-X` and a step `.x` are looked up under their old names, where `-` and `_` count as one. A lemma
 that is named after its goal follows it. What has two new names in one function is left, and printed.
 """
 
@@ -28,9 +28,19 @@ def turn(path, names, label):
     needs = {norm(o): n for o, n in names["needs"]}
     places, fields, clash = {}, {}, set()
     new_places = names["places_by_name"]
-    for (old, parent, step, *rest), new in zip(names["places"], new_places):
+    arms, told, callee, steps = {}, {}, {}, {}
+    for (old, parent, step, called, *rest), new in zip(names["places"], new_places):
         places[norm(old)] = new
         o, n = step
+        steps[old] = step
+        if called:
+            callee[norm(o)] = names["params"].get(called, [])
+        m = re.fullmatch(r"At-(match\w*)-(keys\d+|rest)", old)
+        if m:
+            arms[(norm(m.group(1)), m.group(2))] = n
+        # what an arm's place tells of the value is the arm's own fact now
+        if parent in steps and steps[parent][0].startswith("match"):
+            told[norm(o)] = steps[parent][1]
         if o:
             if fields.get(norm(o), n) != n:
                 clash.add(norm(o))
@@ -69,26 +79,43 @@ def turn(path, names, label):
 
     # steps: after a place, that is a variable or `.before`
     def piece(decl):
-        not_places = set()
+        not_places, called = set(), {}
         for m in re.finditer(r"\blet (" + NAME + r")(?: : [^=]*?)? = ([\w.'+-]+) in", decl):
             last = m.group(2).split(".")
             if len(last) > 1 and last[-1] != "before":
                 not_places.add(m.group(1))
+                if norm(last[-1]) in callee:
+                    called[m.group(1)] = callee[norm(last[-1])]
 
         def path(m):
             parts = m.group(0).split(".")
             out = [parts[0]]
             at_place = parts[0] not in not_places
-            for p in parts[1:]:
+            params = called.get(parts[0])
+            skip = 0
+            for i, p in enumerate(parts[1:], 1):
+                after = parts[i + 1 : i + 3]
+                if skip:
+                    skip -= 1
+                    continue
                 if at_place and p != "before":
                     k = norm(p)
-                    if k in clash:
+                    params = callee.get(k)
+                    if k in told and after == ["given", "1"]:
+                        p, skip = told[k] + ".is", 2
+                    elif after and (k, after[0]) in arms and after[0] != "rest":
+                        p, skip = arms[(k, after[0])] + ".is", 1
+                    elif k in clash:
                         print(f"{label}: {p} has two names, in {m.group(0)}: {[n for (_, _, s, *r) in names['places'] for o, n in [s] if norm(o) == k]}")
                     elif k in fields:
                         p = fields[k]
                     at_place = False
+                elif params and p.isdigit() and parts[i - 1] in ("new", "auto") and int(p) < len(params):
+                    p = params[int(p)]
                 out.append(p)
-            return ".".join(out)
+            whole = ".".join(out)
+            # a step or an argument is found from any later place
+            return re.sub(r"(?:\.before)+\.(?=\w)", ".", whole) if FLAT else whole
 
         return re.sub(r"(?<![\w.'-])[a-z]\w*(?:\.[\w'+-]+)+", path, decl)
 
@@ -99,6 +126,9 @@ def turn(path, names, label):
 
 
 def main():
+    global FLAT
+    FLAT = "--flat" in sys.argv
+    sys.argv = [a for a in sys.argv if a != "--flat"]
     crate, at, only = sys.argv[1], sys.argv[2], sys.argv[3:]
     names = json.load(open(at if at.endswith(".json") else os.path.join(at, "names.json")))
     for folder, dirs, files in os.walk(f"crates/{crate}/proofs"):

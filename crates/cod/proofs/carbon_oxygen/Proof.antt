@@ -10,15 +10,15 @@ use Rattle.cod.proofs.carbon_oxygen.Tie as tie
 product : (c : tie.After-oxygen) → c.before.args.flow * c.oxygen.result ≤ 880_000_000_000
 product c = oxygen_product c.before.args.flow c.oxygen.result c.before.requires.0 c.oxygen.ensures.1
 
-mul-round-up : tie.Need-overflow-mul-round-up
-mul-round-up c = omega (arith, product c)
+overflow_mul-flow : tie.Need-overflow_mul-flow
+overflow_mul-flow c = omega (arith, product c)
 
-round-up-requires : tie.Need-round-up-requires
-round-up-requires c κs = omega (arith, product c)
+round_up-requires : tie.Need-round_up-requires
+round_up-requires c κs = omega (arith, product c)
 
 returns : tie.Need-returns
 unfolding carbon_oxygen_by_cod
 returns c = (rw (← c.before.oxygen.ensures.0) c.round_up.ensures, omega (arith, c.round_up.ensures, product c.before))
 
 pub carbon_oxygen_spec : {M : Type 1} → statement M
-carbon_oxygen_spec = tie.close (tie.spec (λ c κs. search rules) mul-round-up round-up-requires returns)
+carbon_oxygen_spec = tie.close (tie.spec (λ c κs. search rules) overflow_mul-flow round_up-requires returns)

@@ -8,19 +8,19 @@ use Rattle.cod.proofs.carbon_sludge.Statement.{statement}
 use Rattle.cod.proofs.carbon_sludge.Tie as tie
 
 product :
-    (c : tie.After-round-up)
-    → c.before.before.before.before.before.before.args.flow * (100 * c.before.sludge-as-cod.result + 116 * c.round_up.result) ≤ 157_320_000_000_000
+    (c : tie.After-round_up-inorganic)
+    → c.before.before.before.before.before.before.args.flow * (100 * c.before.sludge_as_cod-sludge.result + 116 * c.round_up-inorganic.result) ≤ 157_320_000_000_000
 product c =
     let sludge = c.before in
     let start = sludge.before.before.before.before.before in
-    sludge_product start.args.flow sludge.sludge-as-cod.result c.round_up.result start.requires.0 sludge.sludge-as-cod.ensures.1
-    (omega (arith, c.round_up.ensures, start.requires.2))
+    sludge_product start.args.flow sludge.sludge_as_cod-sludge.result c.round_up-inorganic.result start.requires.0 sludge.sludge_as_cod-sludge.ensures.1
+    (omega (arith, c.round_up-inorganic.ensures, start.requires.2))
 
-mul-round-up-4 : tie.Need-overflow-mul-round-up-4
-mul-round-up-4 c = omega (arith, product c)
+overflow_mul-flow : tie.Need-overflow_mul-flow
+overflow_mul-flow c = omega (arith, product c)
 
-round-up-requires-2 : tie.Need-round-up-requires-2
-round-up-requires-2 c κs = omega (arith, product c)
+round_up-requires : tie.Need-round_up-requires
+round_up-requires c κs = omega (arith, product c)
 
 returns : tie.Need-returns
 unfolding carbon_sludge_by_cod inorganic_solids
@@ -32,15 +32,15 @@ returns c =
     let soluble = degradable.before in
     let inert = soluble.before in (
       rw (
-        c.round-up2.ensures,
-        inorganic.round_up.ensures,
-        sludge.sludge-as-cod.ensures.0,
+        c.round_up.ensures,
+        inorganic.round_up-inorganic.ensures,
+        sludge.sludge_as_cod-sludge.ensures.0,
         dosed.dosed.ensures.0,
         degradable.degradable.ensures.0,
-        soluble.inert-soluble.ensures.0,
-        inert.inert-of-solids.ensures.0,
+        soluble.inert_soluble-soluble.ensures.0,
+        inert.inert_of_solids-inert.ensures.0,
       ),
-      omega (arith, c.round-up2.ensures, product inorganic),
+      omega (arith, c.round_up.ensures, product inorganic),
     )
 
 pub carbon_sludge_spec : {M : Type 1} → statement M
@@ -58,6 +58,6 @@ carbon_sludge_spec =
     (λ c. search rules)
     (λ c. search rules)
     (λ c. search rules)
-    mul-round-up-4
-    round-up-requires-2
+    overflow_mul-flow
+    round_up-requires
     returns)

@@ -9,7 +9,7 @@ returns : tie.Need-returns
 unfolding degradable_cod
 returns c =
     let first = c.before in
-    (rw (← first.less.ensures) c.less2.ensures, omega (arith, c.less2.ensures, first.less.ensures, first.before.requires))
+    (rw (← first.less.ensures) c.less-2.ensures, omega (arith, c.less-2.ensures, first.less.ensures, first.before.requires))
 
 pub degradable_spec : {M : Type 1} → statement M
 degradable_spec = tie.close (tie.spec (λ c κs. search rules) (λ c κs. search rules) returns)

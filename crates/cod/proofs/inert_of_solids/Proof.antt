@@ -7,21 +7,21 @@ use Rattle.cod.proofs.Limits.{particulate_most, inert_most}
 use Rattle.cod.proofs.inert_of_solids.Statement.{statement}
 use Rattle.cod.proofs.inert_of_solids.Tie as tie
 
-mul-rounded-2 : tie.Need-overflow-mul-rounded-2
+overflow_mul-particulate : tie.Need-overflow_mul-particulate
 unfolding particulate_cod
-mul-rounded-2 c = omega (arith, c.rounded.ensures, particulate_most c.before.args.upward c.before.args.solids c.before.requires)
+overflow_mul-particulate c = omega (arith, c.rounded-particulate.ensures, particulate_most c.before.args.upward c.before.args.solids c.before.requires)
 
-rounded-requires-2 : tie.Need-rounded-requires-2
+rounded-requires : tie.Need-rounded-requires
 unfolding particulate_cod
-rounded-requires-2 c κs =
-    (omega (arith, c.rounded.ensures, particulate_most c.before.args.upward c.before.args.solids c.before.requires), omega arith, omega arith)
+rounded-requires c κs =
+    (omega (arith, c.rounded-particulate.ensures, particulate_most c.before.args.upward c.before.args.solids c.before.requires), omega arith, omega arith)
 
 returns : tie.Need-returns
 unfolding inert_of_solids inert_particulate particulate_cod
 returns c =
     let particulate = c.before in
     let start = particulate.before in
-    limited (rw (← particulate.rounded.ensures) c.rounded2.ensures) (inert_most start.args.upward start.args.solids start.requires)
+    limited (rw (← particulate.rounded-particulate.ensures) c.rounded.ensures) (inert_most start.args.upward start.args.solids start.requires)
 
 pub inert_of_solids_spec : {M : Type 1} → statement M
-inert_of_solids_spec = tie.close (tie.spec (λ c. search rules) (λ c κs. search rules) mul-rounded-2 rounded-requires-2 returns)
+inert_of_solids_spec = tie.close (tie.spec (λ c. search rules) (λ c κs. search rules) overflow_mul-particulate rounded-requires returns)

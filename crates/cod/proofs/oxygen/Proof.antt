@@ -14,14 +14,14 @@ returns c =
     let soluble = degradable.before in
     let inert = soluble.before in (
       rw (
-        c.less2.ensures,
+        c.less-2.ensures,
         first.less.ensures,
-        sludge.sludge-as-cod.ensures.0,
-        degradable.degradable.ensures.0,
-        soluble.inert-soluble.ensures.0,
-        inert.inert-of-solids.ensures.0,
+        sludge.sludge_as_cod-sludge.ensures.0,
+        degradable.degradable-degradable.ensures.0,
+        soluble.inert_soluble-soluble.ensures.0,
+        inert.inert_of_solids-inert.ensures.0,
       ),
-      omega (arith, c.less2.ensures, first.less.ensures, inert.before.requires.0),
+      omega (arith, c.less-2.ensures, first.less.ensures, inert.before.requires.0),
     )
 
 pub oxygen_spec : {M : Type 1} → statement M

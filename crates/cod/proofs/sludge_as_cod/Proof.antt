@@ -7,38 +7,38 @@ use Rattle.cod.proofs.Limits.{biomass_most, decayed_product, decayed_most}
 use Rattle.cod.proofs.sludge_as_cod.Statement.{statement}
 use Rattle.cod.proofs.sludge_as_cod.Tie as tie
 
-biomass : (c : tie.After-rounded) → c.rounded.result ≤ 3_283_000
+biomass : (c : tie.After-rounded-biomass) → c.rounded-biomass.result ≤ 3_283_000
 unfolding biomass_formed
-biomass c = omega (arith, c.rounded.ensures, biomass_most c.before.args.upward c.before.args.degradable c.before.args.corrected c.before.requires.1)
+biomass c = omega (arith, c.rounded-biomass.ensures, biomass_most c.before.args.upward c.before.args.degradable c.before.args.corrected c.before.requires.1)
 
-product : (c : tie.After-rounded) → 34 * c.rounded.result * c.before.args.corrected ≤ 3_170_065_000_000
-product c = decayed_product c.rounded.result c.before.args.corrected (biomass c) c.before.requires.2
+product : (c : tie.After-rounded-biomass) → 34 * c.rounded-biomass.result * c.before.args.corrected ≤ 3_170_065_000_000
+product c = decayed_product c.rounded-biomass.result c.before.args.corrected (biomass c) c.before.requires.2
 
-add-result : tie.Need-overflow-add-result
-add-result c = omega (arith, biomass c)
+overflow_add-result : tie.Need-overflow_add-result
+overflow_add-result c = omega (arith, biomass c)
 
-mul-rounded-3 : tie.Need-overflow-mul-rounded-3
-mul-rounded-3 c = omega (arith, biomass c)
+overflow_mul-biomass : tie.Need-overflow_mul-biomass
+overflow_mul-biomass c = omega (arith, biomass c)
 
-mul-rounded-4 : tie.Need-overflow-mul-rounded-4
-mul-rounded-4 c = omega (arith, product c)
+overflow_mul-biomass-2 : tie.Need-overflow_mul-biomass-2
+overflow_mul-biomass-2 c = omega (arith, product c)
 
-rounded-requires-2 : tie.Need-rounded-requires-2
-rounded-requires-2 c κs = (omega (arith, product c), omega arith, omega arith)
+rounded-requires : tie.Need-rounded-requires
+rounded-requires c κs = (omega (arith, product c), omega arith, omega arith)
 
-decayed : (c : tie.After-rounded2) → c.rounded2.result ≤ 3_170_065
+decayed : (c : tie.After-rounded) → c.rounded.result ≤ 3_170_065
 unfolding inert_of_biomass
 decayed c =
     let start = c.before.before in
-    omega (arith, c.rounded2.ensures, decayed_most start.args.upward c.before.rounded.result start.args.corrected (biomass c.before) start.requires.2)
+    omega (arith, c.rounded.ensures, decayed_most start.args.upward c.before.rounded-biomass.result start.args.corrected (biomass c.before) start.requires.2)
 
-add-result-2 : tie.Need-overflow-add-result-2
-add-result-2 c = omega (arith, biomass c.before, decayed c)
+overflow_add-result-2 : tie.Need-overflow_add-result-2
+overflow_add-result-2 c = omega (arith, biomass c.before, decayed c)
 
 returns : tie.Need-returns
 unfolding sludge_as_cod biomass_formed inert_of_biomass
 returns c =
-    (rw (c.rounded2.ensures, c.before.rounded.ensures), omega (arith, c.before.before.requires.0, biomass c.before, decayed c))
+    (rw (c.rounded.ensures, c.before.rounded-biomass.ensures), omega (arith, c.before.before.requires.0, biomass c.before, decayed c))
 
 pub sludge_as_cod_spec : {M : Type 1} → statement M
 sludge_as_cod_spec =
@@ -48,9 +48,9 @@ sludge_as_cod_spec =
     (λ c. search rules)
     (λ c. search rules)
     (λ c κs. search rules)
-    add-result
-    mul-rounded-3
-    mul-rounded-4
-    rounded-requires-2
-    add-result-2
+    overflow_add-result
+    overflow_mul-biomass
+    overflow_mul-biomass-2
+    rounded-requires
+    overflow_add-result-2
     returns)

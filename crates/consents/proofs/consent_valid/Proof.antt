@@ -13,10 +13,10 @@ returns c =
     let first = second.before in
     let consent = first.before.before.before.before.before.args.consent in
     rw (
-      c.entry-valid4.ensures,
-      third.entry-valid3.ensures,
-      second.entry-valid2.ensures,
-      first.entry-valid.ensures,
+      c.entry_valid-4.ensures,
+      third.entry_valid-3.ensures,
+      second.entry_valid-2.ensures,
+      first.entry_valid.ensures,
       every_entry term_valid consent.count consent.first consent.second consent.third consent.fourth,
     )
 

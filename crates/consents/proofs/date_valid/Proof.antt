@@ -6,7 +6,7 @@ use Rattle.consents.proofs.date_valid.Tie as tie
 
 returns : tie.Need-returns
 unfolding date_valid
-returns c = rw (c.within2.ensures, c.before.days-of.ensures, c.before.before.within.ensures)
+returns c = rw (c.within-2.ensures, c.before.days_of.ensures, c.before.before.within.ensures)
 
 pub date_valid_spec : {M : Type 1} → statement M
 date_valid_spec = tie.close (tie.spec (λ c κs. search rules) (λ c κs. search rules) (λ c κs. search rules) returns)

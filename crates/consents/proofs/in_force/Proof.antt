@@ -5,19 +5,19 @@ use Rattle.rules.specs.Consent.{in_force}
 use Rattle.consents.proofs.in_force.Statement.{statement}
 use Rattle.consents.proofs.in_force.Tie as tie
 
-returns : tie.Need-returns
+returns-then-not_after : tie.Need-returns-then-not_after
 unfolding in_force
-returns c =
+returns-then-not_after c =
     let shape = c.before in
     let over = shape.before in
-    rw (over.not-after2.ensures, over.before.not_after.ensures, sym shape.not-after3.ensures ∙ c.if1.true)
+    rw (over.not_after-not_over.ensures, over.before.not_after-begun.ensures, sym shape.not_after.ensures ∙ c.if-not_after.true)
 
-returns-2 : tie.Need-returns-2
+returns-else-not_after : tie.Need-returns-else-not_after
 unfolding in_force
-returns-2 c =
+returns-else-not_after c =
     let shape = c.before in
     let over = shape.before in
-    rw (over.not-after2.ensures, over.before.not_after.ensures, sym shape.not-after3.ensures ∙ c.if1.false)
+    rw (over.not_after-not_over.ensures, over.before.not_after-begun.ensures, sym shape.not_after.ensures ∙ c.if-not_after.false)
 
 pub in_force_spec : {M : Type 1} → statement M
-in_force_spec = tie.close (tie.spec (λ c κs. search rules) (λ c κs. search rules) (λ c κs. search rules) returns returns-2)
+in_force_spec = tie.close (tie.spec (λ c κs. search rules) (λ c κs. search rules) (λ c κs. search rules) returns-then-not_after returns-else-not_after)

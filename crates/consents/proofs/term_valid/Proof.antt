@@ -7,7 +7,7 @@ use Rattle.consents.proofs.term_valid.Tie as tie
 returns : tie.Need-returns
 unfolding term_valid
 returns c =
-    rw (c.within2.ensures, c.before.within.ensures, c.before.before.date-valid2.ensures, c.before.before.before.date-valid.ensures)
+    rw (c.within-2.ensures, c.before.within.ensures, c.before.before.date_valid-2.ensures, c.before.before.before.date_valid.ensures)
 
 pub term_valid_spec : {M : Type 1} → statement M
 term_valid_spec =

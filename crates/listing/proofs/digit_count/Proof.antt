@@ -16,8 +16,8 @@ invariant-tenth n rest₀ count₀ rest count = count + length (numeral rest) �
 abbrev decreases-tenth : tie.decreases-tenth
 decreases-tenth n rest₀ count₀ rest count = rest
 
-add-count : tie.Need-overflow-add-count invariant-tenth decreases-tenth
-add-count c = omega (arith, numeral_length c.before.before.args.n (search rules))
+overflow_add-count : tie.Need-overflow_add-count invariant-tenth decreases-tenth
+overflow_add-count c = omega (arith, numeral_length c.before.before.args.n (search rules))
 
 tenth-again : tie.Need-tenth-preserved invariant-tenth decreases-tenth
 tenth-again c = omega (arith, length_more c.before.tenth.rest c.tenth-test.true)
@@ -27,4 +27,4 @@ returns c =
     omega (arith, length_one c.before.tenth.rest c.tenth-test.false, numeral_length c.before.before.args.n (search rules))
 
 pub digit_count_spec : {M : Type 1} → statement M
-digit_count_spec = tie.close (tie.spec invariant-tenth decreases-tenth (λ c. omega arith) add-count (λ c. omega arith) tenth-again returns)
+digit_count_spec = tie.close (tie.spec invariant-tenth decreases-tenth (λ c. omega arith) overflow_add-count (λ c. omega arith) tenth-again returns)

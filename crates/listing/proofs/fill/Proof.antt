@@ -27,7 +27,7 @@ decreases-form form figures page₀ at₀ k₀ i₀ page at k i = length form - 
 
 -- at a byte of the form: the form, the figures, and the indices in them
 abbrev Here : Type 0
-Here = tie.After-shared-slice-known3 invariant-form decreases-form
+Here = tie.After-shared_slice_known-in-form-1 invariant-form decreases-form
 
 abbrev form : Here → List ℕ
 form c = c.before.before.before.before.before.before.args.form.now
@@ -41,52 +41,52 @@ i c = c.before.before.form.i
 abbrev k : Here → ℕ
 k c = c.before.before.form.k
 
-marked : (c : tie.Then1 invariant-form decreases-form) → AtMark (form c.before) (figures c.before) (i c.before) (k c.before)
+marked : (c : tie.Then-b-eq-MARK invariant-form decreases-form) → AtMark (form c.before) (figures c.before) (i c.before) (k c.before)
 marked c =
-    at_mark (form c.before) (figures c.before) (i c.before) (k c.before) c.before.before.form-test.true c.if1.true
+    at_mark (form c.before) (figures c.before) (i c.before) (k c.before) c.before.before.form-test.true c.if-b-eq-MARK.true
 
-unmarked : (c : tie.Else1 invariant-form decreases-form) → AtByte (form c.before) (figures c.before) (i c.before) (k c.before)
+unmarked : (c : tie.Else-b-eq-MARK invariant-form decreases-form) → AtByte (form c.before) (figures c.before) (i c.before) (k c.before)
 unmarked c =
-    at_byte (form c.before) (figures c.before) (i c.before) (k c.before) c.before.before.form-test.true c.if1.false
+    at_byte (form c.before) (figures c.before) (i c.before) (k c.before) c.before.before.form-test.true c.if-b-eq-MARK.false
 
 form-holds : tie.Need-form-init invariant-form decreases-form
 form-holds c = (omega arith, search rules, refl, omega arith, refl)
 
-mul-put-number : tie.Need-overflow-mul-put-number invariant-form decreases-form
-mul-put-number c = omega (arith, marked c.before)
+offset_bounds-figures-k : tie.Need-offset_bounds-figures-k invariant-form decreases-form
+offset_bounds-figures-k c = omega (arith, marked c.before)
 
-shared-slice-read-put-number : tie.Need-shared-slice-read-put-number invariant-form decreases-form
-shared-slice-read-put-number c = omega (arith, marked c.before.before)
+bounds-figures-k : tie.Need-bounds-figures-k invariant-form decreases-form
+bounds-figures-k c = omega (arith, marked c.before.before)
 
-put-number-requires : tie.Need-put-number-requires invariant-form decreases-form
-put-number-requires c κs = omega (arith, marked c.before.before)
+put_number-at-requires : tie.Need-put_number-at-requires invariant-form decreases-form
+put_number-at-requires c κs = omega (arith, marked c.before.before)
 
-add-k : tie.Need-overflow-add-k invariant-form decreases-form
-add-k c = omega (arith, marked c.before.before.before.before.before)
+overflow_add-k : tie.Need-overflow_add-k invariant-form decreases-form
+overflow_add-k c = omega (arith, marked c.before.before.before.before.before)
 
-form-again : tie.Need-form-preserved invariant-form decreases-form
+form-again : tie.Need-form-preserved-then-b-eq-MARK invariant-form decreases-form
 form-again c =
-    let put = c.before.before.put-number in
+    let put = c.before.before.put_number-at in
     let t = c.before.before.before.before.before in
     let d = t.before.before.before.form in
     let m = marked t in
     let written : List ℕ = numeral (get_or (figures t.before) (k t.before) 0) in
-    let l : length put.new.0 ≡ length d.page = put.auto.0 in (
+    let l : length put.new.page ≡ length d.page = put.auto.page in (
       omega arith,
       omega (arith, m),
       l ∙ d.invariant.2,
       omega (arith, m, put.ensures.0),
-      after_piece d.page put.new.0 d.at put.result written _ _ (omega (arith, m)) put.ensures.0 put.ensures.1 m.bytes
+      after_piece d.page put.new.page d.at put.result written _ _ (omega (arith, m)) put.ensures.0 put.ensures.1 m.bytes
           ∙ d.invariant.4,
     )
 
-slice-write-page : tie.Need-slice-write-page invariant-form decreases-form
-slice-write-page c = omega (arith, unmarked c)
+bounds-page-at : tie.Need-bounds-page-at invariant-form decreases-form
+bounds-page-at c = omega (arith, unmarked c)
 
-add_at : tie.Need-overflow-add-at invariant-form decreases-form
-add_at c = omega (arith, unmarked c)
+overflow_add-at : tie.Need-overflow_add-at invariant-form decreases-form
+overflow_add-at c = omega (arith, unmarked c)
 
-form-again-2 : tie.Need-form-preserved-2 invariant-form decreases-form
+form-again-2 : tie.Need-form-preserved invariant-form decreases-form
 form-again-2 c =
     let d = c.before.before.before.form in
     let m = unmarked c in (
@@ -97,8 +97,8 @@ form-again-2 c =
       after_byte d.page d.at (get_or (form c.before) d.i 0) _ _ (omega (arith, m)) m.bytes ∙ d.invariant.4,
     )
 
-same_length : tie.Need-same-length invariant-form decreases-form
-same_length c = c.before.form.invariant.2
+shape_of-page : tie.Need-shape_of-page invariant-form decreases-form
+shape_of-page c = c.before.form.invariant.2
 
 returns : tie.Need-returns invariant-form decreases-form
 returns c =
@@ -117,15 +117,15 @@ fill_spec =
     form-holds
     (λ c. search rules)
     (λ c. omega arith)
-    mul-put-number
-    shared-slice-read-put-number
-    put-number-requires
-    add-k
+    offset_bounds-figures-k
+    bounds-figures-k
+    put_number-at-requires
+    overflow_add-k
     (λ c. omega arith)
     form-again
-    slice-write-page
-    add_at
+    bounds-page-at
+    overflow_add-at
     (λ c. omega arith)
     form-again-2
-    same_length
+    shape_of-page
     returns)

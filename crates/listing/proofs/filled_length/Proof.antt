@@ -23,7 +23,7 @@ decreases-byte form figures count₀ k₀ i₀ count k i = length form - i
 
 -- at a byte of the form: the form, the figures, and the indices in them
 abbrev Here : Type 0
-Here = tie.After-shared-slice-known3 invariant-byte decreases-byte
+Here = tie.After-shared_slice_known-in-byte-1 invariant-byte decreases-byte
 
 abbrev form : Here → List ℕ
 form c = c.before.before.before.before.before.args.form.now
@@ -37,27 +37,27 @@ i c = c.before.before.byte.i
 abbrev k : Here → ℕ
 k c = c.before.before.byte.k
 
-marked : (c : tie.Then1 invariant-byte decreases-byte) → AtMark (form c.before) (figures c.before) (i c.before) (k c.before)
+marked : (c : tie.Then-b-eq-MARK invariant-byte decreases-byte) → AtMark (form c.before) (figures c.before) (i c.before) (k c.before)
 marked c =
-    at_mark (form c.before) (figures c.before) (i c.before) (k c.before) c.before.before.byte-test.true c.if1.true
+    at_mark (form c.before) (figures c.before) (i c.before) (k c.before) c.before.before.byte-test.true c.if-b-eq-MARK.true
 
-unmarked : (c : tie.Else1 invariant-byte decreases-byte) → AtByte (form c.before) (figures c.before) (i c.before) (k c.before)
+unmarked : (c : tie.Else-b-eq-MARK invariant-byte decreases-byte) → AtByte (form c.before) (figures c.before) (i c.before) (k c.before)
 unmarked c =
-    at_byte (form c.before) (figures c.before) (i c.before) (k c.before) c.before.before.byte-test.true c.if1.false
+    at_byte (form c.before) (figures c.before) (i c.before) (k c.before) c.before.before.byte-test.true c.if-b-eq-MARK.false
 
-mul-digit-count : tie.Need-overflow-mul-digit-count invariant-byte decreases-byte
-mul-digit-count c = omega (arith, marked c)
+offset_bounds-figures-k : tie.Need-offset_bounds-figures-k invariant-byte decreases-byte
+offset_bounds-figures-k c = omega (arith, marked c)
 
-shared-slice-read-digit-count : tie.Need-shared-slice-read-digit-count invariant-byte decreases-byte
-shared-slice-read-digit-count c = omega (arith, marked c.before)
+bounds-figures-k : tie.Need-bounds-figures-k invariant-byte decreases-byte
+bounds-figures-k c = omega (arith, marked c.before)
 
-add-k : tie.Need-overflow-add-k invariant-byte decreases-byte
-add-k c = omega (arith, marked c.before.before)
+overflow_add-k : tie.Need-overflow_add-k invariant-byte decreases-byte
+overflow_add-k c = omega (arith, marked c.before.before)
 
-byte-again : tie.Need-byte-preserved invariant-byte decreases-byte
+byte-again : tie.Need-byte-preserved-then-b-eq-MARK invariant-byte decreases-byte
 byte-again c = omega (arith, marked c.before.before)
 
-byte-again-2 : tie.Need-byte-preserved-2 invariant-byte decreases-byte
+byte-again-2 : tie.Need-byte-preserved invariant-byte decreases-byte
 byte-again-2 c = omega (arith, unmarked c)
 
 returns : tie.Need-returns invariant-byte decreases-byte
@@ -75,11 +75,11 @@ filled_length_spec =
     (λ c. omega arith)
     (λ c. search rules)
     (λ c. omega arith)
-    mul-digit-count
-    shared-slice-read-digit-count
+    offset_bounds-figures-k
+    bounds-figures-k
     (λ c κs. search rules)
     (λ c. omega arith)
-    add-k
+    overflow_add-k
     (λ c. omega arith)
     byte-again
     (λ c. omega arith)

@@ -39,16 +39,16 @@ invariant-digit page₀ at n end rest₀ place₀ page rest place =
 abbrev decreases-digit : tie.decreases-digit
 decreases-digit page₀ at n end rest₀ place₀ page rest place = rest
 
-sub-place : tie.Need-overflow-sub-place invariant-digit decreases-digit
-sub-place c = omega (arith, numeral_nonempty c.before.before.args.n)
+overflow_sub-place : tie.Need-overflow_sub-place invariant-digit decreases-digit
+overflow_sub-place c = omega (arith, numeral_nonempty c.before.before.args.n)
 
 digit-holds : tie.Need-digit-init invariant-digit decreases-digit
 digit-holds c =
     let l : 1 ≤ length (numeral c.before.before.args.n) = numeral_nonempty c.before.before.args.n in
     (omega arith, omega arith, refl, refl)
 
-sub-place-2 : tie.Need-overflow-sub-place-2 invariant-digit decreases-digit
-sub-place-2 c =
+overflow_sub-place-in-digit : tie.Need-overflow_sub-place-in-digit invariant-digit decreases-digit
+overflow_sub-place-in-digit c =
     let d = c.before.digit in
     omega (arith, length_more d.rest c.digit-test.true, numeral_nonempty (d.rest / 10))
 
@@ -64,8 +64,8 @@ digit-again c =
           ∙ d.invariant.3,
     )
 
-same_length : tie.Need-same-length invariant-digit decreases-digit
-same_length c = simp length-set c.before.digit.invariant.2
+shape_of-page : tie.Need-shape_of-page invariant-digit decreases-digit
+shape_of-page c = simp length-set c.before.digit.invariant.2
 
 returns : tie.Need-returns invariant-digit decreases-digit
 returns c =
@@ -83,16 +83,16 @@ put_number_spec =
     decreases-digit
     (λ c κs. search rules)
     (λ c. search rules)
-    sub-place
+    overflow_sub-place
     digit-holds
     (λ c. search rules)
     (λ c. search rules)
     (λ c. search rules)
-    sub-place-2
+    overflow_sub-place-in-digit
     (λ c. omega arith)
     digit-again
     (λ c. search rules)
     (λ c. search rules)
     (λ c. search rules)
-    same_length
+    shape_of-page
     returns)

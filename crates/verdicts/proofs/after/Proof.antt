@@ -3,8 +3,8 @@ use borrow.Author.Rules.{rules}
 use Rattle.verdicts.proofs.after.Statement.{statement}
 use Rattle.verdicts.proofs.after.Tie as tie
 
-returns-2 : tie.Need-returns-2
-returns-2 c = rw c.before.first.given.1
+returns-in-Broken : tie.Need-returns-in-Broken
+returns-in-Broken c = rw c.in-Broken.is
 
 pub after_spec : {M : Type 1} → statement M
-after_spec = tie.close (tie.spec (λ c. search rules) (λ c. search rules) (λ c. search rules) returns-2)
+after_spec = tie.close (tie.spec (λ c. search rules) (λ c. search rules) (λ c. search rules) returns-in-Broken)

@@ -2,11 +2,11 @@
 use Rattle.verdicts.proofs.rule.Statement.{statement}
 use Rattle.verdicts.proofs.rule.Tie as tie
 
-returns : tie.Need-returns
-returns c = rw c.if1.true
+returns-then-kept : tie.Need-returns-then-kept
+returns-then-kept c = rw c.if-kept.true
 
-returns-2 : tie.Need-returns-2
-returns-2 c = rw c.if1.false
+returns-else-kept : tie.Need-returns-else-kept
+returns-else-kept c = rw c.if-kept.false
 
 pub rule_spec : {M : Type 1} → statement M
-rule_spec = tie.close (tie.spec returns returns-2)
+rule_spec = tie.close (tie.spec returns-then-kept returns-else-kept)
