@@ -77,20 +77,22 @@ def turn(path, names, label):
         head, sep, body = text.partition("\n\n")
         text = head + sep + form.sub(lambda m: text_local[m.group(1)], body)
 
-    # steps: after a place, that is a variable or `.before`
+    # steps: after a place, that is `c`, a variable of a place's type, one that is bound to a place, or `.before`
     def piece(decl):
-        not_places, called = set(), {}
+        # a test with `!` says now what is tested; what no arm took is told to the tactics
+        decl = re.sub(r"\((\w+(?:\.[\w+-]+)*)\.match\w*\.rest(?:\.\d+)*\)|\b\w+(?:\.[\w+-]+)*\.match\w*\.rest(?:\.\d+)*", "(omega arith)", decl)
+        at, called = {"c"} | set(re.findall(r"\((" + NAME + r") : tie\.", decl)), {}
         for m in re.finditer(r"\blet (" + NAME + r")(?: : [^=]*?)? = ([\w.'+-]+) in", decl):
             last = m.group(2).split(".")
-            if len(last) > 1 and last[-1] != "before":
-                not_places.add(m.group(1))
-                if norm(last[-1]) in callee:
-                    called[m.group(1)] = callee[norm(last[-1])]
+            if last[0] in at and set(last[1:]) <= {"before"}:
+                at.add(m.group(1))
+            elif norm(last[-1]) in callee:
+                called[m.group(1)] = callee[norm(last[-1])]
 
         def path(m):
             parts = m.group(0).split(".")
             out = [parts[0]]
-            at_place = parts[0] not in not_places
+            at_place = parts[0] in at
             params = called.get(parts[0])
             skip = 0
             for i, p in enumerate(parts[1:], 1):
@@ -101,7 +103,9 @@ def turn(path, names, label):
                 if at_place and p != "before":
                     k = norm(p)
                     params = callee.get(k)
-                    if k in told and after == ["given", "1"]:
+                    if p in ("args", "well-formed"):
+                        p = p.replace("-", "_")
+                    elif k in told and after == ["given", "1"]:
                         p, skip = told[k] + ".is", 2
                     elif after and (k, after[0]) in arms and after[0] != "rest":
                         p, skip = arms[(k, after[0])] + ".is", 1
@@ -112,15 +116,20 @@ def turn(path, names, label):
                     at_place = False
                 elif params and p.isdigit() and parts[i - 1] in ("new", "auto") and int(p) < len(params):
                     p = params[int(p)]
+                elif parts[i - 1] == "args":
+                    p = p.replace("-", "_")
                 out.append(p)
             whole = ".".join(out)
             # a step or an argument is found from any later place
             return re.sub(r"(?:\.before)+\.(?=\w)", ".", whole) if FLAT else whole
 
-        return re.sub(r"(?<![\w.'-])[a-z]\w*(?:\.[\w'+-]+)+", path, decl)
+        decl = re.sub(r"(?<![\w.'-])[a-z]\w*(?:\.[\w'+-]+)+", path, decl)
+        return re.sub(r"not-(?:true|false) _ (\(?)(\w+(?:\.[\w+-]+)*\.if-not-)", r"\1\2", decl)
 
     blocks = re.split(r"(?m)(?=^\S)", text)
     text = "".join(b if b.startswith(("use ", "--")) else piece(b) for b in blocks)
+    if "omega arith" in text and not re.search(r"(?m)^use .*\barith\b", text):
+        text = re.sub(r"(?m)^use ", "use native.Mathlib.Omega.{arith}\nuse ", text, count=1)
     with open(path, "w", encoding="utf-8") as f:
         f.write(text)
 

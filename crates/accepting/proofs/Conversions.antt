@@ -95,20 +95,20 @@ row Parameter.Phosphorus s = column s 18 16 16
 
 pub rows : (k : Parameter) (s : PrimarySettling) → row k s ≡ per_head k s
 unfolding per_head
-rows Parameter.Bod s = elim s [ PrimarySettling.None ↦ refl | PrimarySettling.Short ↦ refl | PrimarySettling.Long ↦ refl ]
-rows Parameter.Cod s = elim s [ PrimarySettling.None ↦ refl | PrimarySettling.Short ↦ refl | PrimarySettling.Long ↦ refl ]
-rows Parameter.Solids s = elim s [ PrimarySettling.None ↦ refl | PrimarySettling.Short ↦ refl | PrimarySettling.Long ↦ refl ]
-rows Parameter.Nitrogen s = elim s [ PrimarySettling.None ↦ refl | PrimarySettling.Short ↦ refl | PrimarySettling.Long ↦ refl ]
-rows Parameter.Phosphorus s = elim s [ PrimarySettling.None ↦ refl | PrimarySettling.Short ↦ refl | PrimarySettling.Long ↦ refl ]
+rows Parameter.Bod s = elim s as (λ t. row Parameter.Bod t ≡ per_head Parameter.Bod t) [ PrimarySettling.None ↦ refl | PrimarySettling.Short ↦ refl | PrimarySettling.Long ↦ refl ]
+rows Parameter.Cod s = elim s as (λ t. row Parameter.Cod t ≡ per_head Parameter.Cod t) [ PrimarySettling.None ↦ refl | PrimarySettling.Short ↦ refl | PrimarySettling.Long ↦ refl ]
+rows Parameter.Solids s = elim s as (λ t. row Parameter.Solids t ≡ per_head Parameter.Solids t) [ PrimarySettling.None ↦ refl | PrimarySettling.Short ↦ refl | PrimarySettling.Long ↦ refl ]
+rows Parameter.Nitrogen s = elim s as (λ t. row Parameter.Nitrogen t ≡ per_head Parameter.Nitrogen t) [ PrimarySettling.None ↦ refl | PrimarySettling.Short ↦ refl | PrimarySettling.Long ↦ refl ]
+rows Parameter.Phosphorus s = elim s as (λ t. row Parameter.Phosphorus t ≡ per_head Parameter.Phosphorus t) [ PrimarySettling.None ↦ refl | PrimarySettling.Short ↦ refl | PrimarySettling.Long ↦ refl ]
 
 -- no figure of Table 1 is above 1200
 pub per_head_most : (k : Parameter) (s : PrimarySettling) → per_head k s ≤ 1_200
 unfolding per_head
-per_head_most Parameter.Bod s = elim s [ PrimarySettling.None ↦ lit≤ tt | PrimarySettling.Short ↦ lit≤ tt | PrimarySettling.Long ↦ lit≤ tt ]
-per_head_most Parameter.Cod s = elim s [ PrimarySettling.None ↦ lit≤ tt | PrimarySettling.Short ↦ lit≤ tt | PrimarySettling.Long ↦ lit≤ tt ]
-per_head_most Parameter.Solids s = elim s [ PrimarySettling.None ↦ lit≤ tt | PrimarySettling.Short ↦ lit≤ tt | PrimarySettling.Long ↦ lit≤ tt ]
-per_head_most Parameter.Nitrogen s = elim s [ PrimarySettling.None ↦ lit≤ tt | PrimarySettling.Short ↦ lit≤ tt | PrimarySettling.Long ↦ lit≤ tt ]
-per_head_most Parameter.Phosphorus s = elim s [ PrimarySettling.None ↦ lit≤ tt | PrimarySettling.Short ↦ lit≤ tt | PrimarySettling.Long ↦ lit≤ tt ]
+per_head_most Parameter.Bod s = elim s as (λ t. per_head Parameter.Bod t ≤ 1_200) [ PrimarySettling.None ↦ lit≤ tt | PrimarySettling.Short ↦ lit≤ tt | PrimarySettling.Long ↦ lit≤ tt ]
+per_head_most Parameter.Cod s = elim s as (λ t. per_head Parameter.Cod t ≤ 1_200) [ PrimarySettling.None ↦ lit≤ tt | PrimarySettling.Short ↦ lit≤ tt | PrimarySettling.Long ↦ lit≤ tt ]
+per_head_most Parameter.Solids s = elim s as (λ t. per_head Parameter.Solids t ≤ 1_200) [ PrimarySettling.None ↦ lit≤ tt | PrimarySettling.Short ↦ lit≤ tt | PrimarySettling.Long ↦ lit≤ tt ]
+per_head_most Parameter.Nitrogen s = elim s as (λ t. per_head Parameter.Nitrogen t ≤ 1_200) [ PrimarySettling.None ↦ lit≤ tt | PrimarySettling.Short ↦ lit≤ tt | PrimarySettling.Long ↦ lit≤ tt ]
+per_head_most Parameter.Phosphorus s = elim s as (λ t. per_head Parameter.Phosphorus t ≤ 1_200) [ PrimarySettling.None ↦ lit≤ tt | PrimarySettling.Short ↦ lit≤ tt | PrimarySettling.Long ↦ lit≤ tt ]
 
 -- ---- the three kinds of reading, at a daily flow q and a primary settling s
 

@@ -8,37 +8,37 @@ use Rattle.accepting.proofs.Gathering.{out_of_range, index_too_high, in_range}
 use Rattle.accepting.proofs.accept.Statement.{statement}
 use Rattle.accepting.proofs.accept.Tie as tie
 
-returns : tie.Need-returns
-returns c =
-    out_of_range c.before.before.args.plant c.before.before.args.readings (sym c.before.plant-in-range.ensures ∙ not-true _ c.if1.true)
+returns-then-not-plant_in_range : tie.Need-returns-then-not-plant_in_range
+returns-then-not-plant_in_range c =
+    out_of_range c.before.before.args.plant c.before.before.args.readings (sym c.before.plant_in_range.ensures ∙ c.if-not-plant_in_range.true)
 
-returns-2 : tie.Need-returns-2
-returns-2 c =
+returns-then-plant-gt-MOST_INDEX : tie.Need-returns-then-plant-gt-MOST_INDEX
+returns-then-plant-gt-MOST_INDEX c =
     let passed = c.before.before in
     let tested = passed.before in
     index_too_high tested.before.args.plant tested.before.args.readings
-    (sym tested.plant-in-range.ensures ∙ not-false _ passed.if1.false)
-    c.if2.true
+    (sym tested.plant_in_range.ensures ∙ passed.if-not-plant_in_range.false)
+    c.if-plant-gt-MOST_INDEX.true
 
-accept-readings-requires : tie.Need-accept-readings-requires
-accept-readings-requires c κs =
+accept_readings-answer-requires : tie.Need-accept_readings-answer-requires
+accept_readings-answer-requires c κs =
     let passed = c.before.before.before in
     let tested = passed.before in
-    flow_least tested.before.args.plant (passes _ (sym tested.plant-in-range.ensures ∙ not-false _ passed.if1.false))
+    flow_least tested.before.args.plant (passes _ (sym tested.plant_in_range.ensures ∙ passed.if-not-plant_in_range.false))
 
-returns-3 : tie.Need-returns-3
-returns-3 c =
+returns : tie.Need-returns
+returns c =
     let valid = c.before in
     let answered = valid.before in
     let allowed = answered.before.before in
     let passed = allowed.before.before in
     let tested = passed.before in
-    rw (c.then-terms.ensures, valid.consent-valid.ensures, answered.accept-readings.ensures)
+    rw (c.then_terms.ensures, valid.consent_valid.ensures, answered.accept_readings-answer.ensures)
     (in_range tested.before.args.plant tested.before.args.readings
-    (sym tested.plant-in-range.ensures ∙ not-false _ passed.if1.false)
-    allowed.if2.false)
+    (sym tested.plant_in_range.ensures ∙ passed.if-not-plant_in_range.false)
+    allowed.if-plant-gt-MOST_INDEX.false)
 
 pub accept_spec : {M : Type 1} → statement M
 accept_spec =
     tie.close
-    (tie.spec (λ c κs. search rules) returns returns-2 accept-readings-requires (λ c κs. search rules) (λ c κs. search rules) returns-3)
+    (tie.spec (λ c κs. search rules) returns-then-not-plant_in_range returns-then-plant-gt-MOST_INDEX accept_readings-answer-requires (λ c κs. search rules) (λ c κs. search rules) returns)

@@ -16,16 +16,16 @@ five way ec eo es en ep = cc
 
 gather-requires : tie.Need-gather-requires
 gather-requires c κs = (
-  rw c.before.before.before.before.convert.ensures (converted_most c.before.before.before.before.before.args.flow c.before.before.before.before.before.args.settling Parameter.Bod c.before.before.before.before.before.args.readings.bod),
-  rw c.before.before.before.convert2.ensures (converted_most c.before.before.before.before.before.args.flow c.before.before.before.before.before.args.settling Parameter.Cod c.before.before.before.before.before.args.readings.cod),
+  rw c.before.before.before.before.convert-bod.ensures (converted_most c.before.before.before.before.before.args.flow c.before.before.before.before.before.args.settling Parameter.Bod c.before.before.before.before.before.args.readings.bod),
+  rw c.before.before.before.convert-cod.ensures (converted_most c.before.before.before.before.before.args.flow c.before.before.before.before.before.args.settling Parameter.Cod c.before.before.before.before.before.args.readings.cod),
 )
 
 returns : tie.Need-returns
 unfolding accept_readings
 returns c =
     c.gather.ensures
-    ∙ five c.before.before.before.before.before.before.args.way c.before.before.before.before.before.convert.ensures c.before.before.before.before.convert2.ensures
-    c.before.before.before.convert3.ensures c.before.before.convert4.ensures c.before.convert5.ensures
+    ∙ five c.before.before.before.before.before.before.args.way c.before.before.before.before.before.convert-bod.ensures c.before.before.before.before.convert-cod.ensures
+    c.before.before.before.convert-solids.ensures c.before.before.convert-nitrogen.ensures c.before.convert-phosphorus.ensures
 
 pub accept_readings_spec : {M : Type 1} → statement M
 accept_readings_spec =

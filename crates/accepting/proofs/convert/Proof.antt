@@ -6,22 +6,22 @@ use Rattle.accepting.proofs.Conversions.{measured, below}
 use Rattle.accepting.proofs.convert.Statement.{statement}
 use Rattle.accepting.proofs.convert.Tie as tie
 
-returns : tie.Need-returns
-returns c =
-    rw c.before.before.before.reading.given.1
-    (c.judge-measurement.ensures
-    ∙ ap (judge_measurement c.before.before.before.before.before.args.parameter) c.before.to-thousandths.ensures
-    ∙ measured c.before.before.before.before.before.args.flow c.before.before.before.before.before.args.settling c.before.before.before.before.before.args.parameter _)
+returns-in-Measured : tie.Need-returns-in-Measured
+returns-in-Measured c =
+    rw c.in-Measured.is
+    (c.judge_measurement.ensures
+    ∙ ap (judge_measurement c.args.parameter) c.to_thousandths.ensures
+    ∙ measured c.args.flow c.args.settling c.args.parameter _)
 
-returns-2 : tie.Need-returns-2
-returns-2 c =
-    rw c.before.before.before.reading2.given.1
-    (c.judge-measurement2.ensures
-    ∙ ap (judge_measurement c.before.before.before.before.before.args.parameter) c.before.to-thousandths2.ensures
-    ∙ below c.before.before.before.before.before.args.flow c.before.before.before.before.before.args.settling c.before.before.before.before.before.args.parameter _)
+returns-in-Below : tie.Need-returns-in-Below
+returns-in-Below c =
+    rw c.in-Below.is
+    (c.judge_measurement-in-Below.ensures
+    ∙ ap (judge_measurement c.args.parameter) c.to_thousandths-in-Below.ensures
+    ∙ below c.args.flow c.args.settling c.args.parameter _)
 
-returns-3 : tie.Need-returns-3
-returns-3 c = rw c.before.before.reading3.given.1 c.convert-heads.ensures
+returns-in-Heads : tie.Need-returns-in-Heads
+returns-in-Heads c = rw c.in-Heads.is c.convert_heads.ensures
 
 pub convert_spec : {M : Type 1} → statement M
 convert_spec =
@@ -35,6 +35,6 @@ convert_spec =
     (λ c κs. search rules)
     (λ c. search rules)
     (λ c κs. search rules)
-    returns
-    returns-2
-    returns-3)
+    returns-in-Measured
+    returns-in-Below
+    returns-in-Heads)

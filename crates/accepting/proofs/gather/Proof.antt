@@ -4,19 +4,19 @@ use borrow.Author.Rules.{rules}
 use Rattle.accepting.proofs.gather.Statement.{statement}
 use Rattle.accepting.proofs.gather.Tie as tie
 
+returns-in-Refused : tie.Need-returns-in-Refused
+unfolding gather
+returns-in-Refused c = simp c.in-Refused.is
+
+returns-in-Refused-cod : tie.Need-returns-in-Refused-cod
+unfolding gather
+returns-in-Refused-cod c = simp (c.in-Refused-cod.is, c.in-Value.is)
+
+gather_rest-requires : tie.Need-gather_rest-requires
+gather_rest-requires c κs = (rw c.in-Value.is at c.requires.0, rw c.in-Value-cod.is at c.requires.1)
+
 returns : tie.Need-returns
-unfolding gather
-returns c = simp c.before.bod2.given.1
-
-returns-2 : tie.Need-returns-2
-unfolding gather
-returns-2 c = simp (c.before.cod2.given.1, c.before.before.before.before.bod.given.1)
-
-gather-rest-requires : tie.Need-gather-rest-requires
-gather-rest-requires c κs = (rw c.before.before.before.before.bod.given.1 at c.before.before.before.before.before.before.requires.0, rw c.before.cod.given.1 at c.before.before.before.before.before.before.requires.1)
-
-returns-3 : tie.Need-returns-3
-returns-3 c = rw (c.before.before.before.before.before.bod.given.1, c.before.before.cod.given.1) c.gather-rest.ensures
+returns c = rw (c.in-Value.is, c.in-Value-cod.is) c.gather_rest.ensures
 
 pub gather_spec : {M : Type 1} → statement M
 gather_spec =
@@ -24,9 +24,9 @@ gather_spec =
     (tie.spec
     (λ c. search rules)
     (λ c. search rules)
-    returns
+    returns-in-Refused
     (λ c. search rules)
     (λ c. search rules)
-    returns-2
-    gather-rest-requires
-    returns-3)
+    returns-in-Refused-cod
+    gather_rest-requires
+    returns)

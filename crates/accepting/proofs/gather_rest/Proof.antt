@@ -29,39 +29,39 @@ accepted :
 unfolding gather
 accepted way a b es en ep e = simp (es, en, ep, e)
 
+returns-in-Refused : tie.Need-returns-in-Refused
+unfolding gather
+returns-in-Refused c = simp c.in-Refused.is
+
+returns-in-Refused-nitrogen : tie.Need-returns-in-Refused-nitrogen
+unfolding gather
+returns-in-Refused-nitrogen c = simp (c.in-Refused-nitrogen.is, c.in-Value.is)
+
+returns-in-Refused-phosphorus : tie.Need-returns-in-Refused-phosphorus
+unfolding gather
+returns-in-Refused-phosphorus c = simp (c.in-Refused-phosphorus.is, c.in-Value-nitrogen.is, c.in-Value.is)
+
+returns-then-ratio_refused : tie.Need-returns-then-ratio_refused
+returns-then-ratio_refused c =
+    let tested = c.before in
+    let phosphorus = tested.before in
+    let nitrogen = phosphorus.before in
+    let solids = nitrogen.before in
+    let start = solids.before in
+    refused start.args.way start.args.bod start.args.cod solids.in-Value.is nitrogen.in-Value-nitrogen.is
+    phosphorus.in-Value-phosphorus.is
+    (sym tested.ratio_refused.ensures ∙ c.if-ratio_refused.true)
+
 returns : tie.Need-returns
-unfolding gather
-returns c = simp c.before.solids2.given.1
-
-returns-2 : tie.Need-returns-2
-unfolding gather
-returns-2 c = simp (c.before.nitrogen2.given.1, c.before.before.before.before.solids.given.1)
-
-returns-3 : tie.Need-returns-3
-unfolding gather
-returns-3 c = simp (c.before.phosphorus2.given.1, c.before.before.before.before.nitrogen.given.1, c.before.before.before.before.before.before.before.solids.given.1)
-
-returns-4 : tie.Need-returns-4
-returns-4 c =
+returns c =
     let tested = c.before in
-    let phosphorus = tested.before.before in
-    let nitrogen = phosphorus.before.before.before in
-    let solids = nitrogen.before.before.before in
-    let start = solids.before.before in
-    refused start.args.way start.args.bod start.args.cod solids.solids.given.1 nitrogen.nitrogen.given.1
-    phosphorus.phosphorus.given.1
-    (sym tested.ratio-refused.ensures ∙ c.if1.true)
-
-returns-5 : tie.Need-returns-5
-returns-5 c =
-    let tested = c.before in
-    let phosphorus = tested.before.before in
-    let nitrogen = phosphorus.before.before.before in
-    let solids = nitrogen.before.before.before in
-    let start = solids.before.before in
-    accepted start.args.way start.args.bod start.args.cod solids.solids.given.1 nitrogen.nitrogen.given.1
-    phosphorus.phosphorus.given.1
-    (sym tested.ratio-refused.ensures ∙ c.if1.false)
+    let phosphorus = tested.before in
+    let nitrogen = phosphorus.before in
+    let solids = nitrogen.before in
+    let start = solids.before in
+    accepted start.args.way start.args.bod start.args.cod solids.in-Value.is nitrogen.in-Value-nitrogen.is
+    phosphorus.in-Value-phosphorus.is
+    (sym tested.ratio_refused.ensures ∙ c.if-ratio_refused.false)
 
 pub gather_rest_spec : {M : Type 1} → statement M
 gather_rest_spec =
@@ -69,13 +69,13 @@ gather_rest_spec =
     (tie.spec
     (λ c. search rules)
     (λ c. search rules)
-    returns
+    returns-in-Refused
     (λ c. search rules)
     (λ c. search rules)
-    returns-2
+    returns-in-Refused-nitrogen
     (λ c. search rules)
     (λ c. search rules)
-    returns-3
+    returns-in-Refused-phosphorus
     (λ c κs. search rules)
-    returns-4
-    returns-5)
+    returns-then-ratio_refused
+    returns)

@@ -4,11 +4,11 @@ use mathlib.Core.Path.{sym, ◌∙◌}
 use Rattle.accepting.proofs.judge_result.Statement.{statement}
 use Rattle.accepting.proofs.judge_result.Tie as tie
 
-returns : tie.Need-returns
-returns c = simp (sym c.before.result-in-range.ensures ∙ c.if1.true)
+returns-then-result_in_range : tie.Need-returns-then-result_in_range
+returns-then-result_in_range c = simp (sym c.before.result_in_range.ensures ∙ c.if-result_in_range.true)
 
-returns-2 : tie.Need-returns-2
-returns-2 c = simp (sym c.before.result-in-range.ensures ∙ c.if1.false)
+returns-else-result_in_range : tie.Need-returns-else-result_in_range
+returns-else-result_in_range c = simp (sym c.before.result_in_range.ensures ∙ c.if-result_in_range.false)
 
 pub judge_result_spec : {M : Type 1} → statement M
-judge_result_spec = tie.close (tie.spec (λ c κs. search rules) returns returns-2)
+judge_result_spec = tie.close (tie.spec (λ c κs. search rules) returns-then-result_in_range returns-else-result_in_range)

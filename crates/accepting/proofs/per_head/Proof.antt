@@ -6,20 +6,20 @@ use Rattle.accepting.proofs.Conversions.{rows}
 use Rattle.accepting.proofs.per_head.Statement.{statement}
 use Rattle.accepting.proofs.per_head.Tie as tie
 
-returns : tie.Need-returns
-returns c = rw c.before.enum_told.given.1 (c.column.ensures ∙ rows Parameter.Bod c.before.before.before.args.settling)
+returns-in-Bod : tie.Need-returns-in-Bod
+returns-in-Bod c = rw c.in-Bod.is (c.column.ensures ∙ rows Parameter.Bod c.args.settling)
 
-returns-2 : tie.Need-returns-2
-returns-2 c = rw c.before.enum-told2.given.1 (c.column2.ensures ∙ rows Parameter.Cod c.before.before.before.args.settling)
+returns-in-Cod : tie.Need-returns-in-Cod
+returns-in-Cod c = rw c.in-Cod.is (c.column-in-Cod.ensures ∙ rows Parameter.Cod c.args.settling)
 
-returns-3 : tie.Need-returns-3
-returns-3 c = rw c.before.enum-told3.given.1 (c.column3.ensures ∙ rows Parameter.Solids c.before.before.before.args.settling)
+returns-in-Solids : tie.Need-returns-in-Solids
+returns-in-Solids c = rw c.in-Solids.is (c.column-in-Solids.ensures ∙ rows Parameter.Solids c.args.settling)
 
-returns-4 : tie.Need-returns-4
-returns-4 c = rw c.before.enum-told4.given.1 (c.column4.ensures ∙ rows Parameter.Nitrogen c.before.before.before.args.settling)
+returns-in-Nitrogen : tie.Need-returns-in-Nitrogen
+returns-in-Nitrogen c = rw c.in-Nitrogen.is (c.column-in-Nitrogen.ensures ∙ rows Parameter.Nitrogen c.args.settling)
 
-returns-5 : tie.Need-returns-5
-returns-5 c = rw c.before.enum-told5.given.1 (c.column5.ensures ∙ rows Parameter.Phosphorus c.before.before.before.args.settling)
+returns-in-Phosphorus : tie.Need-returns-in-Phosphorus
+returns-in-Phosphorus c = rw c.in-Phosphorus.is (c.column-in-Phosphorus.ensures ∙ rows Parameter.Phosphorus c.args.settling)
 
 pub per_head_spec : {M : Type 1} → statement M
 per_head_spec =
@@ -35,8 +35,8 @@ per_head_spec =
     (λ c κs. search rules)
     (λ c. search rules)
     (λ c κs. search rules)
-    returns
-    returns-2
-    returns-3
-    returns-4
-    returns-5)
+    returns-in-Bod
+    returns-in-Cod
+    returns-in-Solids
+    returns-in-Nitrogen
+    returns-in-Phosphorus)

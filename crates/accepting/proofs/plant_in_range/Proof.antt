@@ -59,22 +59,22 @@ returns c =
     let t1 = t2.before in
     let tests : List Bool =
     t1.within.result
-    ∷ t2.within2.result
-    ∷ t3.within3.result
-    ∷ t4.within4.result
-    ∷ t5.within5.result
-    ∷ t6.within6.result
-    ∷ t7.within7.result
-    ∷ t8.within8.result
-    ∷ t9.within9.result
-    ∷ t10.within10.result
-    ∷ t11.within11.result
-    ∷ t12.within12.result
-    ∷ t13.within13.result
-    ∷ c.within14.result
+    ∷ t2.within-2.result
+    ∷ t3.within-3.result
+    ∷ t4.within-4.result
+    ∷ t5.within-5.result
+    ∷ t6.within-6.result
+    ∷ t7.within-7.result
+    ∷ t8.within-8.result
+    ∷ t9.within-9.result
+    ∷ t10.within-10.result
+    ∷ t11.within-11.result
+    ∷ t12.within-12.result
+    ∷ t13.within-13.result
+    ∷ c.within-14.result
     ∷ [] in
     in_turn tests (plant_figures t1.before.args.plant)
-    (t1.within.ensures, (t2.within2.ensures, (t3.within3.ensures, (t4.within4.ensures, (t5.within5.ensures, (t6.within6.ensures, (t7.within7.ensures, (t8.within8.ensures, (t9.within9.ensures, (t10.within10.ensures, (t11.within11.ensures, (t12.within12.ensures, (t13.within13.ensures, (c.within14.ensures, tt))))))))))))))
+    (t1.within.ensures, (t2.within-2.ensures, (t3.within-3.ensures, (t4.within-4.ensures, (t5.within-5.ensures, (t6.within-6.ensures, (t7.within-7.ensures, (t8.within-8.ensures, (t9.within-9.ensures, (t10.within-10.ensures, (t11.within-11.ensures, (t12.within-12.ensures, (t13.within-13.ensures, (c.within-14.ensures, tt))))))))))))))
 
 pub plant_in_range_spec : {M : Type 1} → statement M
 plant_in_range_spec =

@@ -4,13 +4,13 @@ use Rattle.rules.specs.LabReadings.{cod_ratio_broken, ratio_refused}
 use Rattle.accepting.proofs.ratio_refused.Statement.{statement}
 use Rattle.accepting.proofs.ratio_refused.Tie as tie
 
-returns : tie.Need-returns
+returns-in-Bod : tie.Need-returns-in-Bod
 unfolding ratio_refused cod_ratio_broken
-returns c = rw c.enum_told.given.1
+returns-in-Bod c = rw c.in-Bod.is
 
-returns-2 : tie.Need-returns-2
+returns-in-Cod : tie.Need-returns-in-Cod
 unfolding ratio_refused
-returns-2 c = rw c.enum-told2.given.1
+returns-in-Cod c = rw c.in-Cod.is
 
 pub ratio_refused_spec : {M : Type 1} → statement M
-ratio_refused_spec = tie.close (tie.spec (λ c. search rules) (λ c. search rules) (λ c. search rules) (λ c. search rules) returns returns-2)
+ratio_refused_spec = tie.close (tie.spec (λ c. search rules) (λ c. search rules) (λ c. search rules) (λ c. search rules) returns-in-Bod returns-in-Cod)

@@ -5,25 +5,25 @@ use Rattle.rules.specs.LabReadings.{result_in_range}
 use Rattle.accepting.proofs.result_in_range.Statement.{statement}
 use Rattle.accepting.proofs.result_in_range.Tie as tie
 
-returns : tie.Need-returns
+returns-in-Bod : tie.Need-returns-in-Bod
 unfolding result_in_range
-returns c = simp c.enum_told.given.1
+returns-in-Bod c = simp c.in-Bod.is
 
-returns-2 : tie.Need-returns-2
+returns-in-Cod : tie.Need-returns-in-Cod
 unfolding result_in_range
-returns-2 c = simp c.enum-told2.given.1
+returns-in-Cod c = simp c.in-Cod.is
 
-returns-3 : tie.Need-returns-3
+returns-in-Solids : tie.Need-returns-in-Solids
 unfolding result_in_range
-returns-3 c = simp (c.enum-told3.given.1, leb-zero)
+returns-in-Solids c = simp (c.in-Solids.is, leb-zero)
 
-returns-4 : tie.Need-returns-4
+returns-in-Nitrogen : tie.Need-returns-in-Nitrogen
 unfolding result_in_range
-returns-4 c = simp (c.enum-told4.given.1, leb-zero)
+returns-in-Nitrogen c = simp (c.in-Nitrogen.is, leb-zero)
 
-returns-5 : tie.Need-returns-5
+returns-in-Phosphorus : tie.Need-returns-in-Phosphorus
 unfolding result_in_range
-returns-5 c = simp (c.enum-told5.given.1, leb-zero)
+returns-in-Phosphorus c = simp (c.in-Phosphorus.is, leb-zero)
 
 pub result_in_range_spec : {M : Type 1} → statement M
 result_in_range_spec =
@@ -34,8 +34,8 @@ result_in_range_spec =
     (λ c. search rules)
     (λ c. search rules)
     (λ c. search rules)
-    returns
-    returns-2
-    returns-3
-    returns-4
-    returns-5)
+    returns-in-Bod
+    returns-in-Cod
+    returns-in-Solids
+    returns-in-Nitrogen
+    returns-in-Phosphorus)

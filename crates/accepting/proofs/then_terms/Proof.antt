@@ -3,14 +3,14 @@ use borrow.Author.Rules.{rules}
 use Rattle.accepting.proofs.then_terms.Statement.{statement}
 use Rattle.accepting.proofs.then_terms.Tie as tie
 
-returns : tie.Need-returns
-returns c = rw c.before.answer.given.1
+returns-in-Refused : tie.Need-returns-in-Refused
+returns-in-Refused c = rw c.in-Refused.is
 
-returns-2 : tie.Need-returns-2
-returns-2 c = rw (c.before.before.answer2.given.1, c.if1.true)
+returns-then-valid : tie.Need-returns-then-valid
+returns-then-valid c = rw (c.in-Accepted.is, c.if-valid.true)
 
-returns-3 : tie.Need-returns-3
-returns-3 c = rw (c.before.before.answer2.given.1, c.if1.false)
+returns-else-valid : tie.Need-returns-else-valid
+returns-else-valid c = rw (c.in-Accepted.is, c.if-valid.false)
 
 pub then_terms_spec : {M : Type 1} → statement M
-then_terms_spec = tie.close (tie.spec (λ c. search rules) (λ c. search rules) returns returns-2 returns-3)
+then_terms_spec = tie.close (tie.spec (λ c. search rules) (λ c. search rules) returns-in-Refused returns-then-valid returns-else-valid)

@@ -31,64 +31,64 @@ divisor parts k one two l =
 
 -- the parameter is an f32
 held : (c : tie.Start) → T (fits binary32 c.args.x)
-held c = passes (fits binary32 c.args.x) c.well-formed.0.1
+held c = passes (fits binary32 c.args.x) c.well_formed.0.1
 
 -- past the first test it is a number
-number : (c : tie.Else1) → no_number c.before.before.args.x ≡ false
-number c = sym c.before.no_number.ensures ∙ c.if1.false
+number : (c : tie.Else-no_number) → no_number c.before.before.args.x ≡ false
+number c = sym c.before.no_number.ensures ∙ c.if-no_number.false
 
-returns : tie.Need-returns
+returns-then-no_number : tie.Need-returns-then-no_number
 unfolding measurement
-returns c = simp (sym c.before.no_number.ensures ∙ c.if1.true)
+returns-then-no_number c = simp (sym c.before.no_number.ensures ∙ c.if-no_number.true)
 
-float-to-bits-bits : tie.Need-float-to-bits-bits
-float-to-bits-bits c = number_no_nan c.before.before.args.x (number c)
+float_to_bits-bits : tie.Need-float_to_bits-bits
+float_to_bits-bits c = number_no_nan c.before.before.args.x (number c)
 
-returns-2 : tie.Need-returns-2
-returns-2 c =
+returns-then-exponent-lt110 : tie.Need-returns-then-exponent-lt110
+returns-then-exponent-lt110 c =
     let s : tie.Start = c.before.before.before in
-    sym (at_low s.args.parts s.requires.least s.args.x (held s) (number c.before) _ _ (and_mask _ 8) (and_mask (to_bits binary32 s.args.x) 23) c.if2.true)
+    sym (at_low s.args.parts s.requires.least s.args.x (held s) (number c.before) _ _ (and_mask _ 8) (and_mask (to_bits binary32 s.args.x) 23) c.if-exponent-lt110.true)
 
-returns-3 : tie.Need-returns-3
-returns-3 c =
+returns-then-exponent-gt149 : tie.Need-returns-then-exponent-gt149
+returns-then-exponent-gt149 c =
     let s : tie.Start = c.before.before.before.before in
-    sym (at_high s.args.parts s.requires.least s.args.x (held s) (number c.before.before) _ _ (and_mask _ 8) (and_mask (to_bits binary32 s.args.x) 23) c.if3.true)
+    sym (at_high s.args.parts s.requires.least s.args.x (held s) (number c.before.before) _ _ (and_mask _ 8) (and_mask (to_bits binary32 s.args.x) 23) c.if-exponent-gt149.true)
 
-add-significand : tie.Need-overflow-add-significand
-add-significand c = omega (arith, mask_lt (to_bits binary32 c.before.before.before.before.args.x) 23)
+overflow_add-significand : tie.Need-overflow_add-significand
+overflow_add-significand c = omega (arith, mask_lt (to_bits binary32 c.before.before.before.before.args.x) 23)
 
-cast-significand : tie.Need-overflow-cast-significand
-cast-significand c = omega (arith, mask_lt (to_bits binary32 c.before.before.before.before.args.x) 23)
+overflow_cast-significand : tie.Need-overflow_cast-significand
+overflow_cast-significand c = omega (arith, mask_lt (to_bits binary32 c.before.before.before.before.args.x) 23)
 
-mul-nearest : tie.Need-overflow-mul-nearest
-mul-nearest c = omega (arith, mask_lt (to_bits binary32 c.before.before.before.before.args.x) 23)
+overflow_mul-significand : tie.Need-overflow_mul-significand
+overflow_mul-significand c = omega (arith, mask_lt (to_bits binary32 c.before.before.before.before.args.x) 23)
 
 nearest-requires : tie.Need-nearest-requires
 nearest-requires c κs =
     let s : tie.Start = c.before.before.before.before in
-    divisor s.args.parts _ s.requires.least s.requires.most c.before.if2.false
+    divisor s.args.parts _ s.requires.least s.requires.most c.before.if-exponent-lt110.false
 
-returns-4 : tie.Need-returns-4
-returns-4 c =
+returns : tie.Need-returns
+returns c =
     let s : tie.Start = c.before.before.before.before.before in
-    let l = c.before.before.if2.false in
+    let l = c.before.before.if-exponent-lt110.false in
     ap Measurement.Thousandths (c.nearest.ensures ∙ ap (closest _) (shifted s.args.parts _ s.requires.most l))
-    ∙ sym (at_middle s.args.parts s.requires.least s.args.x (held s) (number c.before.before.before) _ _ (and_mask _ 8) (and_mask _ 23) l c.before.if3.false)
+    ∙ sym (at_middle s.args.parts s.requires.least s.args.x (held s) (number c.before.before.before) _ _ (and_mask _ 8) (and_mask _ 23) l c.before.if-exponent-gt149.false)
 
 pub to_thousandths_spec : {M : Type 1} → statement M
 to_thousandths_spec =
     tie.close
     (tie.spec
     (λ c κs. search rules)
-    returns
-    float-to-bits-bits
-    returns-2
-    returns-3
-    add-significand
-    cast-significand
-    mul-nearest
+    returns-then-no_number
+    float_to_bits-bits
+    returns-then-exponent-lt110
+    returns-then-exponent-gt149
+    overflow_add-significand
+    overflow_cast-significand
+    overflow_mul-significand
     (λ c. search rules)
     (λ c. search rules)
     (λ c. search rules)
     nearest-requires
-    returns-4)
+    returns)

@@ -10,8 +10,8 @@ use Rattle.settling.proofs.bottom_sludge.Tie as tie
 returns : tie.Need-returns
 unfolding bottom_sludge
 returns c = (
-  ap (λ root. bottom_sludge root c.before.args.index) c.thickening-root.ensures.0,
-  bottom_limits c.thickening-root.ensures.1 c.before.requires.0,
+  ap (λ root. bottom_sludge root c.before.args.index) c.thickening_root.ensures.0,
+  bottom_limits c.thickening_root.ensures.1 c.before.requires.0,
 )
 
 pub bottom_sludge_spec : {M : Type 1} → statement M

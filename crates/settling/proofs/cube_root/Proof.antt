@@ -52,33 +52,33 @@ middle_most s = omega (arith, s.wide, s.most)
 halving-holds : tie.Need-halving-init invariant-halving decreases-halving
 halving-holds c = record { reached = omega arith; passed = c.requires; wide = refl; most = omega arith }
 
-sub-left : tie.Need-overflow-sub-left invariant-halving decreases-halving
-sub-left c = omega arith
+overflow_sub-left : tie.Need-overflow_sub-left invariant-halving decreases-halving
+overflow_sub-left c = omega arith
 
-add-middle : tie.Need-overflow-add-middle invariant-halving decreases-halving
-add-middle c = omega (arith, c.before.halving.invariant.wide, c.before.halving.invariant.most)
+overflow_add-middle : tie.Need-overflow_add-middle invariant-halving decreases-halving
+overflow_add-middle c = omega (arith, c.before.halving.invariant.wide, c.before.halving.invariant.most)
 
-mul-if2 : tie.Need-overflow-mul-if2 invariant-halving decreases-halving
-mul-if2 c = let m = middle_most c.before.halving.invariant in omega (arith, mul-le-mul m m)
+overflow_mul-middle : tie.Need-overflow_mul-middle invariant-halving decreases-halving
+overflow_mul-middle c = let m = middle_most c.before.halving.invariant in omega (arith, mul-le-mul m m)
 
-mul-if2-2 : tie.Need-overflow-mul-if2-2 invariant-halving decreases-halving
-mul-if2-2 c = let m = middle_most c.before.halving.invariant in omega (arith, mul-le-mul (mul-le-mul m m) m)
+overflow_mul-middle-in-halving : tie.Need-overflow_mul-middle-in-halving invariant-halving decreases-halving
+overflow_mul-middle-in-halving c = let m = middle_most c.before.halving.invariant in omega (arith, mul-le-mul (mul-le-mul m m) m)
 
-halving-less : tie.Need-halving-smaller invariant-halving decreases-halving
+halving-less : tie.Need-halving-smaller-then-n-middle invariant-halving decreases-halving
 halving-less c = omega arith
 
-halving-again : tie.Need-halving-preserved invariant-halving decreases-halving
-halving-again c = lower c.before.before.halving.invariant c.before.if1.false c.if2.true
+halving-again : tie.Need-halving-preserved-then-n-middle invariant-halving decreases-halving
+halving-again c = lower c.before.before.halving.invariant c.before.if-left-eq0.false c.if-n-middle.true
 
-halving-less-2 : tie.Need-halving-smaller-2 invariant-halving decreases-halving
+halving-less-2 : tie.Need-halving-smaller invariant-halving decreases-halving
 halving-less-2 c = omega arith
 
-halving-again-2 : tie.Need-halving-preserved-2 invariant-halving decreases-halving
-halving-again-2 c = upper c.before.before.halving.invariant c.before.if1.false c.if2.false
+halving-again-2 : tie.Need-halving-preserved invariant-halving decreases-halving
+halving-again-2 c = upper c.before.before.halving.invariant c.before.if-left-eq0.false c.if-n-middle.false
 
 returns : tie.Need-returns invariant-halving decreases-halving
 returns c =
-    cube_root_at c.before.before.args.n c.before.halving.low (one (subst (Span c.before.before.args.n c.before.halving.low c.before.halving.high) c.if1.true c.before.halving.invariant))
+    cube_root_at c.before.before.args.n c.before.halving.low (one (subst (Span c.before.before.args.n c.before.halving.low c.before.halving.high) c.if-left-eq0.true c.before.halving.invariant))
 
 pub cube_root_spec : {M : Type 1} → statement M
 cube_root_spec =
@@ -87,10 +87,10 @@ cube_root_spec =
     invariant-halving
     decreases-halving
     halving-holds
-    sub-left
-    add-middle
-    mul-if2
-    mul-if2-2
+    overflow_sub-left
+    overflow_add-middle
+    overflow_mul-middle
+    overflow_mul-middle-in-halving
     halving-less
     halving-again
     halving-less-2

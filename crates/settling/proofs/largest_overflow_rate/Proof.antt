@@ -4,13 +4,13 @@ use Rattle.rules.specs.SettlingSteps.{largest_overflow_rate}
 use Rattle.settling.proofs.largest_overflow_rate.Statement.{statement}
 use Rattle.settling.proofs.largest_overflow_rate.Tie as tie
 
-returns : tie.Need-returns
+returns-in-Horizontal : tie.Need-returns-in-Horizontal
 unfolding largest_overflow_rate
-returns c = search rules
+returns-in-Horizontal c = search rules
 
-returns-2 : tie.Need-returns-2
+returns-in-Vertical : tie.Need-returns-in-Vertical
 unfolding largest_overflow_rate
-returns-2 c = search rules
+returns-in-Vertical c = search rules
 
 pub largest_overflow_rate_spec : {M : Type 1} → statement M
-largest_overflow_rate_spec = tie.close (tie.spec (λ c. search rules) (λ c. search rules) returns returns-2)
+largest_overflow_rate_spec = tie.close (tie.spec (λ c. search rules) (λ c. search rules) returns-in-Horizontal returns-in-Vertical)

@@ -8,14 +8,14 @@ use Rattle.settling.proofs.Limits.{returned_limits}
 use Rattle.settling.proofs.return_sludge.Statement.{statement}
 use Rattle.settling.proofs.return_sludge.Tie as tie
 
-mul-result : tie.Need-overflow-mul-result
-mul-result c = omega (arith, mul-le-mul c.return-share.ensures.1.most c.before.requires.most)
+overflow_mul-result : tie.Need-overflow_mul-result
+overflow_mul-result c = omega (arith, mul-le-mul c.return_share.ensures.1.most c.before.requires.most)
 
 returns : tie.Need-returns
 unfolding return_sludge
 returns c =
-    let limits = returned_limits c.return-share.ensures.1 c.before.requires in
-    (ap (λ share. return_sludge share c.before.args.bottom) c.return-share.ensures.0, limits.0, limits.1)
+    let limits = returned_limits c.return_share.ensures.1 c.before.requires in
+    (ap (λ share. return_sludge share c.before.args.bottom) c.return_share.ensures.0, limits.0, limits.1)
 
 pub return_sludge_spec : {M : Type 1} → statement M
-return_sludge_spec = tie.close (tie.spec (λ c κs. search rules) mul-result returns)
+return_sludge_spec = tie.close (tie.spec (λ c κs. search rules) overflow_mul-result returns)

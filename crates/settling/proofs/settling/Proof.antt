@@ -18,28 +18,28 @@ settled c = (known c.requires.1 (bottom_limits (root_limits c.requires.0.2) c.re
 index-product : (c : tie.Start) → c.args.bottom * c.args.plant.sludge_volume_index ≤ 1_357_200
 index-product c = rw c.requires.1 (bottom_index c.args.plant.sludge_volume_index (root_limits c.requires.0.2))
 
-return-sludge-requires : tie.Need-return-sludge-requires
-return-sludge-requires c κs = settled c.before.before
+return_sludge-returned-requires : tie.Need-return_sludge-returned-requires
+return_sludge-returned-requires c κs = settled c.before.before
 
-diluted-volume-requires : tie.Need-diluted-volume-requires
-diluted-volume-requires c κs =
+diluted_volume-sludge_volume-requires : tie.Need-diluted_volume-sludge_volume-requires
+diluted_volume-sludge_volume-requires c κs =
     let start = c.before.before.before.before in (
-      c.mixed-solids.ensures.1,
+      c.mixed_solids-solids.ensures.1,
       start.requires.0.0.index,
-      solids_index _ _ _ (omega (arith, c.mixed-solids.ensures.2, c.before.return-sludge.ensures.2)) (index-product start),
+      solids_index _ _ _ (omega (arith, c.mixed_solids-solids.ensures.2, c.before.return_sludge-returned.ensures.2)) (index-product start),
     )
 
-settling-depth-requires : tie.Need-settling-depth-requires
-settling-depth-requires c κs =
+settling_depth-depth-requires : tie.Need-settling_depth-depth-requires
+settling_depth-depth-requires c κs =
     let start = c.before.before.before.before.before.before.before in
     record {
-      overflow = c.before.surface-overflow-rate.ensures.1;
+      overflow = c.before.surface_overflow_rate-rate.ensures.1;
       returned = start.requires.0.1;
-      diluted = c.before.before.diluted-volume.ensures.1;
-      mixed = c.before.before.before.mixed-solids.ensures.1;
+      diluted = c.before.before.diluted_volume-sludge_volume.ensures.1;
+      mixed = c.before.before.before.mixed_solids-solids.ensures.1;
       time = start.requires.0.2;
       settled = settled start;
-      half = omega (arith, c.before.before.before.mixed-solids.ensures.2, c.before.before.before.before.return-sludge.ensures.2);
+      half = omega (arith, c.before.before.before.mixed_solids-solids.ensures.2, c.before.before.before.before.return_sludge-returned.ensures.2);
     }
 
 returns : tie.Need-returns
@@ -48,19 +48,19 @@ returns c =
     let e =
     tank_figures
     start.args.plant
-    start.args.return-ratio
+    start.args.return_ratio
     start.args.thickening
     start.requires.1
-    c.before.before.before.before.before.before.return-sludge.ensures.0
-    c.before.before.before.before.before.mixed-solids.ensures.0
-    c.before.before.before.before.diluted-volume.ensures.0
-    c.before.before.before.surface-overflow-rate.ensures.0
-    c.before.before.settling-surface.ensures.0
-    c.before.settling-depth.ensures.0
-    c.settling-volume.ensures.0 in (
+    c.before.before.before.before.before.before.return_sludge-returned.ensures.0
+    c.before.before.before.before.before.mixed_solids-solids.ensures.0
+    c.before.before.before.before.diluted_volume-sludge_volume.ensures.0
+    c.before.before.before.surface_overflow_rate-rate.ensures.0
+    c.before.before.settling_surface-surface.ensures.0
+    c.before.settling_depth-depth.ensures.0
+    c.settling_volume-volume.ensures.0 in (
       e,
       subst SettlingBounds (sym e)
-          (settling_bounds_lem start.args.plant start.args.return-ratio start.args.thickening start.requires.0.0 start.requires.0.1 start.requires.0.2),
+          (settling_bounds_lem start.args.plant start.args.return_ratio start.args.thickening start.requires.0.0 start.requires.0.1 start.requires.0.2),
     )
 
 pub settling_spec : {M : Type 1} → statement M
@@ -69,11 +69,11 @@ settling_spec =
     (tie.spec
     (λ c. search rules)
     (λ c. search rules)
-    return-sludge-requires
+    return_sludge-returned-requires
     (λ c κs. search rules)
-    diluted-volume-requires
+    diluted_volume-sludge_volume-requires
     (λ c κs. search rules)
     (λ c κs. search rules)
-    settling-depth-requires
+    settling_depth-depth-requires
     (λ c κs. search rules)
     returns)

@@ -11,75 +11,75 @@ use Rattle.settling.proofs.Bounds.{depth_parts}
 use Rattle.settling.proofs.settling_depth.Statement.{statement}
 use Rattle.settling.proofs.settling_depth.Tie as tie
 
-mul-round-up-2 : tie.Need-overflow-mul-round-up-2
-mul-round-up-2 c = omega (arith, flow_product c.requires)
+overflow_mul-rate-2 : tie.Need-overflow_mul-rate-2
+overflow_mul-rate-2 c = omega (arith, flow_product c.requires)
 
-round-up-requires : tie.Need-round-up-requires
-round-up-requires c κs = omega (arith, flow_product c.requires)
+round_up-separation-requires : tie.Need-round_up-separation-requires
+round_up-separation-requires c κs = omega (arith, flow_product c.requires)
 
-mul-round-up-3 : tie.Need-overflow-mul-round-up-3
-mul-round-up-3 c = omega (arith, loading_product c.before.requires)
+overflow_mul-rate-3 : tie.Need-overflow_mul-rate-3
+overflow_mul-rate-3 c = omega (arith, loading_product c.before.requires)
 
-round-up-requires-2 : tie.Need-round-up-requires-2
-round-up-requires-2 c κs = omega (arith, loading_product c.before.requires)
+round_up-loading-requires : tie.Need-round_up-loading-requires
+round_up-loading-requires c κs = omega (arith, loading_product c.before.requires)
 
 -- q · V as rounded
-loading : (c : tie.After-round-up2) → c.round-up2.result ≤ 1_358
+loading : (c : tie.After-round_up-loading) → c.round_up-loading.result ≤ 1_358
 loading c = omega (arith, loading_product c.before.before.requires)
 
-mul-round-up-4 : tie.Need-overflow-mul-round-up-4
-mul-round-up-4 c = omega (arith, loading c)
+overflow_mul-loading : tie.Need-overflow_mul-loading
+overflow_mul-loading c = omega (arith, loading c)
 
-mul-round-up-5 : tie.Need-overflow-mul-round-up-5
-mul-round-up-5 c = omega (arith, storage_product c.before.before.requires c.round-up2.result (loading c))
+overflow_mul-loading-2 : tie.Need-overflow_mul-loading-2
+overflow_mul-loading-2 c = omega (arith, storage_product c.before.before.requires c.round_up-loading.result (loading c))
 
-round-up-requires-3 : tie.Need-round-up-requires-3
-round-up-requires-3 c κs = omega (arith, storage_product c.before.before.requires c.round-up2.result (loading c))
+round_up-storage-requires : tie.Need-round_up-storage-requires
+round_up-storage-requires c κs = omega (arith, storage_product c.before.before.requires c.round_up-loading.result (loading c))
 
-mul-round-up-6 : tie.Need-overflow-mul-round-up-6
-mul-round-up-6 c = omega (arith, mul-le-mul c.before.before.before.requires.mixed.most c.before.before.before.requires.overflow.most)
+overflow_mul-solids : tie.Need-overflow_mul-solids
+overflow_mul-solids c = omega (arith, mul-le-mul c.before.before.before.requires.mixed.most c.before.before.before.requires.overflow.most)
 
-mul-round-up-7 : tie.Need-overflow-mul-round-up-7
-mul-round-up-7 c = omega (arith, mul-le-mul c.before.before.before.requires.mixed.most (flow_product c.before.before.before.requires))
+overflow_mul-solids-2 : tie.Need-overflow_mul-solids-2
+overflow_mul-solids-2 c = omega (arith, mul-le-mul c.before.before.before.requires.mixed.most (flow_product c.before.before.before.requires))
 
-mul-round-up-8 : tie.Need-overflow-mul-round-up-8
-mul-round-up-8 c = omega (arith, thickening_product c.before.before.before.requires)
+overflow_mul-solids-3 : tie.Need-overflow_mul-solids-3
+overflow_mul-solids-3 c = omega (arith, thickening_product c.before.before.before.requires)
 
-round-up-requires-4 : tie.Need-round-up-requires-4
-round-up-requires-4 c κs = omega (arith, thickening_product c.before.before.before.requires)
+round_up-thickened-requires : tie.Need-round_up-thickened-requires
+round_up-thickened-requires c κs = omega (arith, thickening_product c.before.before.before.requires)
 
 -- the three parts' limits
 parts :
-    (c : tie.After-round-up4) →
-    (c.before.before.before.round_up.result ≤ 6_300) × (c.before.round-up3.result ≤ 2_445) × (c.round-up4.result ≤ 5_000)
+    (c : tie.After-round_up-thickened) →
+    (c.before.before.before.round_up-separation.result ≤ 6_300) × (c.before.round_up-storage.result ≤ 2_445) × (c.round_up-thickened.result ≤ 5_000)
 parts c =
     let g = c.before.before.before.before.requires in (
       omega (arith, separation_most g),
-      omega (arith, storage_product g c.before.before.round-up2.result (loading c.before.before)),
+      omega (arith, storage_product g c.before.before.round_up-loading.result (loading c.before.before)),
       omega (arith, thickening_most g),
     )
 
 -- the sum, raised to 3,000, is the definition's depth
 depth :
-    (c : tie.After-round-up4) →
+    (c : tie.After-round_up-thickened) →
     let a = c.before.before.before.before.args in
-    max 3_000 (500 + c.before.before.before.round_up.result + c.before.round-up3.result + c.round-up4.result)
+    max 3_000 (500 + c.before.before.before.round_up-separation.result + c.before.round_up-storage.result + c.round_up-thickened.result)
     ≡ settling_depth a.rate a.ratio a.volume a.solids a.thickening a.bottom
 depth c =
     depth_parts _ _ _ _ _ _
-    c.before.before.before.round_up.ensures
-    c.before.before.round-up2.ensures
-    c.before.round-up3.ensures
-    c.round-up4.ensures
+    c.before.before.before.round_up-separation.ensures
+    c.before.before.round_up-loading.ensures
+    c.before.round_up-storage.ensures
+    c.round_up-thickened.ensures
 
-add-larger : tie.Need-overflow-add-larger
-add-larger c = omega (arith, parts c)
+overflow_add-separation : tie.Need-overflow_add-separation
+overflow_add-separation c = omega (arith, parts c)
 
-add-larger-2 : tie.Need-overflow-add-larger-2
-add-larger-2 c = omega (arith, parts c)
+overflow_add-separation-2 : tie.Need-overflow_add-separation-2
+overflow_add-separation-2 c = omega (arith, parts c)
 
-add-larger-3 : tie.Need-overflow-add-larger-3
-add-larger-3 c = omega (arith, parts c)
+overflow_add-separation-3 : tie.Need-overflow_add-separation-3
+overflow_add-separation-3 c = omega (arith, parts c)
 
 returns : tie.Need-returns
 returns c = known (c.larger.ensures ∙ depth c.before) (depth_limits c.before.before.before.before.before.requires)
@@ -90,23 +90,23 @@ settling_depth_spec =
     (tie.spec
     (λ c. search rules)
     (λ c. search rules)
-    mul-round-up-2
+    overflow_mul-rate-2
     (λ c. search rules)
-    round-up-requires
-    mul-round-up-3
-    round-up-requires-2
-    mul-round-up-4
+    round_up-separation-requires
+    overflow_mul-rate-3
+    round_up-loading-requires
+    overflow_mul-loading
     (λ c. search rules)
-    mul-round-up-5
-    round-up-requires-3
-    mul-round-up-6
+    overflow_mul-loading-2
+    round_up-storage-requires
+    overflow_mul-solids
     (λ c. search rules)
-    mul-round-up-7
-    mul-round-up-8
+    overflow_mul-solids-2
+    overflow_mul-solids-3
     (λ c. search rules)
-    round-up-requires-4
-    add-larger
-    add-larger-2
-    add-larger-3
+    round_up-thickened-requires
+    overflow_add-separation
+    overflow_add-separation-2
+    overflow_add-separation-3
     (λ c κs. search rules)
     returns)

@@ -6,15 +6,15 @@ use Rattle.settling.proofs.Limits.{known, volume_limits}
 use Rattle.settling.proofs.settling_volume.Statement.{statement}
 use Rattle.settling.proofs.settling_volume.Tie as tie
 
-mul-round-up : tie.Need-overflow-mul-round-up
-mul-round-up c = omega (arith, mul-le-mul c.requires.0.most c.requires.1.most)
+overflow_mul-surface : tie.Need-overflow_mul-surface
+overflow_mul-surface c = omega (arith, mul-le-mul c.requires.0.most c.requires.1.most)
 
-round-up-requires : tie.Need-round-up-requires
-round-up-requires c κs = omega (arith, mul-le-mul c.requires.0.most c.requires.1.most)
+round_up-requires : tie.Need-round_up-requires
+round_up-requires c κs = omega (arith, mul-le-mul c.requires.0.most c.requires.1.most)
 
 returns : tie.Need-returns
 unfolding settling_volume
 returns c = known c.round_up.ensures (volume_limits c.before.requires.0 c.before.requires.1)
 
 pub settling_volume_spec : {M : Type 1} → statement M
-settling_volume_spec = tie.close (tie.spec mul-round-up round-up-requires returns)
+settling_volume_spec = tie.close (tie.spec overflow_mul-surface round_up-requires returns)

@@ -4,13 +4,13 @@ use Rattle.rules.specs.SettlingSteps.{solids_kept}
 use Rattle.settling.proofs.solids_kept.Statement.{statement}
 use Rattle.settling.proofs.solids_kept.Tie as tie
 
-returns : tie.Need-returns
+returns-then-solids-ge1000 : tie.Need-returns-then-solids-ge1000
 unfolding solids_kept
-returns c = simp (le-leb _ _ c.if1.true)
+returns-then-solids-ge1000 c = simp (le-leb _ _ c.if-solids-ge1000.true)
 
-returns-2 : tie.Need-returns-2
+returns-else-solids-ge1000 : tie.Need-returns-else-solids-ge1000
 unfolding solids_kept
-returns-2 c = simp (lt-leb _ _ c.if1.false)
+returns-else-solids-ge1000 c = simp (lt-leb _ _ c.if-solids-ge1000.false)
 
 pub solids_kept_spec : {M : Type 1} → statement M
-solids_kept_spec = tie.close (tie.spec returns returns-2)
+solids_kept_spec = tie.close (tie.spec returns-then-solids-ge1000 returns-else-solids-ge1000)

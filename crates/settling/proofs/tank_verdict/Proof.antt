@@ -6,7 +6,7 @@ use Rattle.settling.proofs.tank_verdict.Tie as tie
 returns : tie.Need-returns
 returns c =
     let depth = c.before.before in
-    rw (c.rule3.ensures, c.before.rule2.ensures, depth.rule.ensures, depth.before.before.before.solids-kept.ensures)
+    rw (c.rule-3.ensures, c.before.rule-2.ensures, depth.rule.ensures, depth.before.before.before.solids_kept-solids.ensures)
 
 pub tank_verdict_spec : {M : Type 1} → statement M
 tank_verdict_spec = tie.close (tie.spec (λ c. search rules) (λ c. search rules) (λ c κs. search rules) (λ c κs. search rules) (λ c κs. search rules) (λ c κs. search rules) returns)

@@ -7,7 +7,7 @@ use Rattle.settling.proofs.thickening_root.Tie as tie
 
 returns : tie.Need-returns
 unfolding thickening_root
-returns c = known c.cube-root.ensures (root_limits c.before.requires)
+returns c = known c.cube_root.ensures (root_limits c.before.requires)
 
 pub thickening_root_spec : {M : Type 1} → statement M
 thickening_root_spec = tie.close (tie.spec (λ c. search rules) (λ c κs. search rules) returns)

@@ -4,13 +4,13 @@ use Rattle.rules.specs.SettlingSteps.{volume_loading}
 use Rattle.settling.proofs.volume_loading.Statement.{statement}
 use Rattle.settling.proofs.volume_loading.Tie as tie
 
-returns : tie.Need-returns
+returns-in-Horizontal : tie.Need-returns-in-Horizontal
 unfolding volume_loading
-returns c = search rules
+returns-in-Horizontal c = search rules
 
-returns-2 : tie.Need-returns-2
+returns-in-Vertical : tie.Need-returns-in-Vertical
 unfolding volume_loading
-returns-2 c = search rules
+returns-in-Vertical c = search rules
 
 pub volume_loading_spec : {M : Type 1} → statement M
-volume_loading_spec = tie.close (tie.spec (λ c. search rules) (λ c. search rules) returns returns-2)
+volume_loading_spec = tie.close (tie.spec (λ c. search rules) (λ c. search rules) returns-in-Horizontal returns-in-Vertical)
