@@ -10,7 +10,7 @@ use Rattle.rules.specs.declared.Concentrations.{Concentrations}
 use Rattle.rules.specs.declared.Precipitant.{Precipitant}
 use Rattle.rules.specs.declared.Way.{Way}
 use Rattle.rules.specs.Rounding.{down}
-use Rattle.cod.proofs.Limits as by_cod_lem
+use Rattle.cod.proofs.Limits as cod_limits
 use Rattle.reactor.proofs.Limits.{levels_off}
 
 pub biomass_decay_most : (u : ℕ) → biomass_decay u ≤ 600
@@ -59,7 +59,7 @@ unfolding carbon_sludge_in
 carbon_sludge_in_most Way.Bod flow x dose u hf hx hd hu =
     omega (arith, carbon_sludge_most flow x.bod x.solids u hf hx.bod.most hx.solids.most)
 carbon_sludge_in_most Way.Cod flow x dose u hf hx hd hu =
-    by_cod_lem.carbon-sludge-most flow x.cod x.solids dose u hf hx.cod.most hx.solids.most hd hu
+    cod_limits.carbon_sludge_most flow x.cod x.solids dose u hf hx.cod.most hx.solids.most hd hu
 
 pub sludge_production_most :
     (p : Plant) (x : Concentrations) (carbon : ℕ)

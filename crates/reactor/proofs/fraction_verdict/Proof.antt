@@ -11,25 +11,25 @@ use Rattle.reactor.proofs.EverySeason.{every_nitrified, every_covered}
 use Rattle.reactor.proofs.fraction_verdict.Statement.{statement}
 use Rattle.reactor.proofs.fraction_verdict.Tie as tie
 
-returns : tie.Need-returns
-returns c = rw (sym c.before.covered.ensures ∙ not-true _ c.if1.true)
+returns-then-not-covered : tie.Need-returns-then-not-covered
+returns-then-not-covered c = rw (sym c.before.covered-covered.ensures ∙ c.if-not-covered.true)
 
 -- without terms both rules of the terms are kept
-returns-2 : tie.Need-returns-2
+returns-then-seasons-eq0 : tie.Need-returns-then-seasons-eq0
 unfolding seasons_of
-returns-2 c =
+returns-then-seasons-eq0 c =
     let passed = c.before.before in
     let start = passed.before.before in
     let plant = start.args.plant in
-    let none : plant.consent.count ≡ 0 = sym (ap (λ (s : Seasons). s.count) start.requires.2.value) ∙ c.if2.true in
+    let none : plant.consent.count ≡ 0 = sym (ap (λ (s : Seasons). s.count) start.requires.2.value) ∙ c.if-seasons-eq0.true in
     rw (
-      sym passed.before.covered.ensures ∙ not-false _ passed.if1.false,
+      sym passed.before.covered-covered.ensures ∙ passed.if-not-covered.false,
       none_fails (nitrifies plant start.args.reactor) plant.consent none,
       none_fails (term_covered plant start.args.concentrations start.args.reactor) plant.consent none,
     )
 
-returns-3 : tie.Need-returns-3
-returns-3 c =
+returns : tie.Need-returns
+returns c =
     let last = c.before in
     let covered = last.before in
     let nitrified = covered.before in
@@ -37,11 +37,11 @@ returns-3 c =
     let start = passed.before.before in
     let plant = start.args.plant in
     rw (
-      sym passed.before.covered.ensures ∙ not-false _ passed.if1.false,
-      c.rule2.ensures,
+      sym passed.before.covered-covered.ensures ∙ passed.if-not-covered.false,
+      c.rule-2.ensures,
       last.rule.ensures,
-      covered.every-covered.ensures,
-      nitrified.every-nitrified.ensures,
+      covered.every_covered-term_covered.ensures,
+      nitrified.every_nitrified-nitrified.ensures,
       start.requires.2.value,
       every_nitrified plant start.args.concentrations start.args.reactor,
       every_covered plant start.args.concentrations start.args.reactor,
@@ -52,10 +52,10 @@ fraction_verdict_spec =
     tie.close
     (tie.spec
     (λ c κs. search rules)
-    returns
-    returns-2
+    returns-then-not-covered
+    returns-then-seasons-eq0
     (λ c κs. search rules)
     (λ c κs. search rules)
     (λ c κs. search rules)
     (λ c κs. search rules)
-    returns-3)
+    returns)

@@ -32,16 +32,16 @@ own_inflow : (p : Plant) (x : Concentrations) (s : Seasons) → s ≡ seasons_of
 unfolding seasons_of
 own_inflow p x s e = ap (λ (t : Seasons). t.inflow) e
 
-carbon : (c : tie.After-carbon-sludge-in) → c.carbon-sludge-in.result + c.before.before.before.before.before.before.before.before.before.args.seasons.inflow.phosphorus_sludge ≤ most_sludge
+carbon : (c : tie.After-carbon_sludge_in-carbon) → c.carbon_sludge_in-carbon.result + c.before.before.before.before.before.before.before.before.before.args.seasons.inflow.phosphorus_sludge ≤ most_sludge
 carbon c =
     let start = c.before.before.before.before.before.before.before.before.before in
-    omega (arith, c.carbon-sludge-in.ensures.1, start.requires.3.bounds.inflow.phosphorus)
+    omega (arith, c.carbon_sludge_in-carbon.ensures.1, start.requires.3.bounds.inflow.phosphorus)
 
-add-sludge : tie.Need-overflow-add-sludge
-add-sludge c = omega (arith, carbon c.before)
+overflow_add-sludge : tie.Need-overflow_add-sludge
+overflow_add-sludge c = omega (arith, carbon c.before)
 
-sludge-mass-requires : tie.Need-sludge-mass-requires
-sludge-mass-requires c κs = (c.before.before.before.before.sludge-age.ensures.1.most, carbon c.before)
+sludge_mass-mass-requires : tie.Need-sludge_mass-mass-requires
+sludge_mass-mass-requires c κs = (c.before.before.before.before.sludge_age-age.ensures.1.most, carbon c.before)
 
 returns : tie.Need-returns
 unfolding reactor_of reactor_dosed reactor_by sludge_production corrected_age inflow_of
@@ -56,24 +56,24 @@ returns c =
     let value = start.requires.3.value in
     let inflow = start.requires.3.bounds.inflow in (
       rw (
-        c.sludge-mass.ensures.0,
-        carbonic.carbon-sludge-in.ensures.0,
-        removed.removes.ensures.0,
-        corrected.corrected-by.ensures.0,
-        age.sludge-age.ensures.0,
+        c.sludge_mass-mass.ensures.0,
+        carbonic.carbon_sludge_in-carbon.ensures.0,
+        removed.removes-removes.ensures.0,
+        corrected.corrected_by-corrected.ensures.0,
+        age.sludge_age-age.ensures.0,
         design_age_lem p x start.args.seasons value,
         design_decay p x start.args.seasons value,
         own_inflow p x start.args.seasons value,
       ),
       record {
         fraction = start.requires.2;
-        age = age.sludge-age.ensures.1;
+        age = age.sludge_age-age.ensures.1;
         nitrified = inflow.nitrified;
         denitrified = inflow.denitrified;
-        removes = removed.removes.ensures.1;
+        removes = removed.removes-removes.ensures.1;
         by_dose = inflow.by_dose;
         sludge = carbon carbonic;
-        mass = c.sludge-mass.ensures.1;
+        mass = c.sludge_mass-mass.ensures.1;
       },
     )
 
@@ -88,6 +88,6 @@ reactor_spec =
     (λ c κs. search rules)
     (λ c κs. search rules)
     (λ c κs. search rules)
-    add-sludge
-    sludge-mass-requires
+    overflow_add-sludge
+    sludge_mass-mass-requires
     returns)

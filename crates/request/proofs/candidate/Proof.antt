@@ -12,4 +12,4 @@ candidate_spec =
     (λ c κs. search rules)
     (λ c. search rules)
     (λ c κs. search rules)
-    (λ c. rw (c.word3.ensures, c.before.word2.ensures, c.before.before.word.ensures)))
+    (λ c. rw (c.word-3.ensures, c.before.word-2.ensures, c.before.before.word.ensures)))

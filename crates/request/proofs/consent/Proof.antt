@@ -9,7 +9,7 @@ returns c =
     let second = third.before in
     let first = second.before in
     let count = first.before in
-    rw (c.term4.ensures, third.term3.ensures, second.term2.ensures, first.term.ensures, count.word.ensures)
+    rw (c.term-fourth.ensures, third.term-third.ensures, second.term-second.ensures, first.term-first.ensures, count.word-count.ensures)
 
 pub consent_spec : {M : Type 1} → statement M
 consent_spec =

@@ -6,4 +6,4 @@ use Rattle.request.proofs.date.Tie as tie
 pub date_spec : {M : Type 1} → statement M
 date_spec =
     tie.close
-    (tie.spec (λ c κs. search rules) (λ c. search rules) (λ c κs. search rules) (λ c. rw (c.word2.ensures, c.before.word.ensures)))
+    (tie.spec (λ c κs. search rules) (λ c. search rules) (λ c κs. search rules) (λ c. rw (c.word-2.ensures, c.before.word.ensures)))

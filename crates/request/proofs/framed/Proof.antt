@@ -8,36 +8,36 @@ use Rattle.request.specs.Frames.{version, frame_of}
 use Rattle.request.proofs.framed.Statement.{statement}
 use Rattle.request.proofs.framed.Tie as tie
 
-returns : tie.Need-returns
+returns-then-bytes-lt4 : tie.Need-returns-then-bytes-lt4
 unfolding frame_of
-returns c = rw (lt-leb _ _ c.if1.true)
+returns-then-bytes-lt4 c = rw (lt-leb _ _ c.if-bytes-lt4.true)
 
-returns-2 : tie.Need-returns-2
+returns-then-word-ne-VERSION : tie.Need-returns-then-word-ne-VERSION
 unfolding frame_of
-returns-2 c =
+returns-then-word-ne-VERSION c =
     let read = c.before in
-    rw (le-leb _ _ read.before.if1.false, ap (λ (w : ℕ). eqb w version) (sym read.word.ensures) ∙ ne_eqb _ _ c.if2.true)
+    rw (le-leb _ _ read.before.if-bytes-lt4.false, ap (λ (w : ℕ). eqb w version) (sym read.word.ensures) ∙ ne_eqb _ _ c.if-word-ne-VERSION.true)
 
-returns-3 : tie.Need-returns-3
+returns-then-bytes-words : tie.Need-returns-then-bytes-words
 unfolding frame_of
-returns-3 c =
+returns-then-bytes-words c =
     let read = c.before.before in
     rw (
-      le-leb _ _ read.before.if1.false,
-      ap (λ (w : ℕ). eqb w version) (sym read.word.ensures) ∙ eq-eqb _ _ c.before.if2.false,
-      ne_eqb _ _ c.if3.true,
+      le-leb _ _ read.before.if-bytes-lt4.false,
+      ap (λ (w : ℕ). eqb w version) (sym read.word.ensures) ∙ eq-eqb _ _ c.before.if-word-ne-VERSION.false,
+      ne_eqb _ _ c.if-bytes-words.true,
     )
 
-returns-4 : tie.Need-returns-4
+returns : tie.Need-returns
 unfolding frame_of
-returns-4 c =
+returns c =
     let read = c.before.before in
     rw (
-      le-leb _ _ read.before.if1.false,
-      ap (λ (w : ℕ). eqb w version) (sym read.word.ensures) ∙ eq-eqb _ _ c.before.if2.false,
-      eq-eqb _ _ c.if3.false,
+      le-leb _ _ read.before.if-bytes-lt4.false,
+      ap (λ (w : ℕ). eqb w version) (sym read.word.ensures) ∙ eq-eqb _ _ c.before.if-word-ne-VERSION.false,
+      eq-eqb _ _ c.if-bytes-words.false,
     )
 
 pub framed_spec : {M : Type 1} → statement M
 framed_spec =
-    tie.close (tie.spec returns (λ c κs. search rules) returns-2 (λ c. search rules) returns-3 returns-4)
+    tie.close (tie.spec returns-then-bytes-lt4 (λ c κs. search rules) returns-then-word-ne-VERSION (λ c. search rules) returns-then-bytes-words returns)

@@ -9,7 +9,7 @@ returns c =
     let solids = nitrogen.before in
     let cod = solids.before in
     let bod = cod.before in
-    rw (c.reading5.ensures, nitrogen.reading4.ensures, solids.reading3.ensures, cod.reading2.ensures, bod.reading.ensures)
+    rw (c.reading-5.ensures, nitrogen.reading-4.ensures, solids.reading-3.ensures, cod.reading-2.ensures, bod.reading.ensures)
 
 pub readings_spec : {M : Type 1} → statement M
 readings_spec =

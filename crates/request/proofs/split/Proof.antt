@@ -16,15 +16,15 @@ returns c =
     let second = third.before in
     let first = second.before in
     rw (
-      c.word9.ensures,
-      eighth.word8.ensures,
-      seventh.word7.ensures,
-      sixth.word6.ensures,
-      fifth.word5.ensures,
-      fourth.word4.ensures,
-      third.word3.ensures,
-      second.word2.ensures,
-      first.word.ensures,
+      c.word-8.ensures,
+      eighth.word-7.ensures,
+      seventh.word-6.ensures,
+      sixth.word-5.ensures,
+      fifth.word-4.ensures,
+      fourth.word-3.ensures,
+      third.word-2.ensures,
+      second.word.ensures,
+      first.word-count.ensures,
     )
 
 pub split_spec : {M : Type 1} → statement M

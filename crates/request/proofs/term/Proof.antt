@@ -8,7 +8,7 @@ returns c =
     let temperature = c.before in
     let last = temperature.before in
     let first = last.before in
-    rw (c.word2.ensures, temperature.word.ensures, last.date2.ensures, first.date.ensures)
+    rw (c.word-2.ensures, temperature.word.ensures, last.date-last.ensures, first.date-first.ensures)
 
 pub term_spec : {M : Type 1} → statement M
 term_spec =

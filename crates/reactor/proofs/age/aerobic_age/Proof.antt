@@ -12,11 +12,11 @@ use Rattle.reactor.proofs.age.aerobic_age.Tie as tie
 product : (c : tie.After-growth) → Between 1 20_000_000_000 (c.before.args.factor * 34 * c.growth.result)
 product c = aerobic_product c.before.args.factor c.growth.result c.before.requires.0 c.growth.ensures.1
 
-mul-round-up-2 : tie.Need-overflow-mul-round-up-2
-mul-round-up-2 c = omega (arith, product c)
+overflow_mul-factor-2 : tie.Need-overflow_mul-factor-2
+overflow_mul-factor-2 c = omega (arith, product c)
 
-round-up-requires : tie.Need-round-up-requires
-round-up-requires c κs = omega (arith, product c)
+round_up-requires : tie.Need-round_up-requires
+round_up-requires c κs = omega (arith, product c)
 
 returns : tie.Need-returns
 unfolding aerobic_age
@@ -30,4 +30,4 @@ returns c =
 
 pub aerobic_age_spec : {M : Type 1} → statement M
 aerobic_age_spec =
-    tie.close (tie.spec (λ c. search rules) (λ c κs. search rules) mul-round-up-2 round-up-requires returns)
+    tie.close (tie.spec (λ c. search rules) (λ c κs. search rules) overflow_mul-factor-2 round_up-requires returns)

@@ -7,18 +7,18 @@ use Rattle.rules.proofs.Quotients.{limited}
 use Rattle.reactor.proofs.age.decay.Statement.{statement}
 use Rattle.reactor.proofs.age.decay.Tie as tie
 
-returns : tie.Need-returns
+returns-then-temperature-le15 : tie.Need-returns-then-temperature-le15
 unfolding decay
-returns c =
-    limited (simp (le-leb _ _ c.before.if1.true) c.per-degree.ensures)
+returns-then-temperature-le15 c =
+    limited (simp (le-leb _ _ c.before.if-temperature-le15.true) c.per_degree.ensures)
     (decay_most c.before.before.args.temperature c.before.before.requires)
 
-returns-2 : tie.Need-returns-2
+returns-else-temperature-le15 : tie.Need-returns-else-temperature-le15
 unfolding decay
-returns-2 c =
-    limited (simp (lt-leb _ _ c.before.if1.false) c.per-degree2.ensures)
+returns-else-temperature-le15 c =
+    limited (simp (lt-leb _ _ c.before.if-temperature-le15.false) c.per_degree-else-temperature-le15.ensures)
     (decay_most c.before.before.args.temperature c.before.before.requires)
 
 pub decay_spec : {M : Type 1} → statement M
 decay_spec =
-    tie.close (tie.spec (λ c κs. search rules) (λ c. search rules) (λ c κs. search rules) returns returns-2)
+    tie.close (tie.spec (λ c κs. search rules) (λ c. search rules) (λ c κs. search rules) returns-then-temperature-le15 returns-else-temperature-le15)

@@ -15,16 +15,16 @@ use Rattle.reactor.proofs.age.growth.Tie as tie
 in_limits : (n : ℕ) → TermTemperature n → {r : ℕ} → r ≡ growth n → (r ≡ growth n) × Between 1 2_942_000 r × (least_temperature ≤ n → r ≤ 1_633_000)
 in_limits n b e = (e, omega (arith, growth_between n b), λ h. omega (arith, growth_most n (record { least = h; most = b.most })))
 
-returns : tie.Need-returns
+returns-then-temperature-le15 : tie.Need-returns-then-temperature-le15
 unfolding growth
-returns c =
-    in_limits c.before.before.args.temperature c.before.before.requires (simp (le-leb _ _ c.before.if1.true) c.per-degree.ensures)
+returns-then-temperature-le15 c =
+    in_limits c.before.before.args.temperature c.before.before.requires (simp (le-leb _ _ c.before.if-temperature-le15.true) c.per_degree.ensures)
 
-returns-2 : tie.Need-returns-2
+returns-else-temperature-le15 : tie.Need-returns-else-temperature-le15
 unfolding growth
-returns-2 c =
-    in_limits c.before.before.args.temperature c.before.before.requires (simp (lt-leb _ _ c.before.if1.false) c.per-degree2.ensures)
+returns-else-temperature-le15 c =
+    in_limits c.before.before.args.temperature c.before.before.requires (simp (lt-leb _ _ c.before.if-temperature-le15.false) c.per_degree-else-temperature-le15.ensures)
 
 pub growth_spec : {M : Type 1} → statement M
 growth_spec =
-    tie.close (tie.spec (λ c κs. search rules) (λ c. search rules) (λ c κs. search rules) returns returns-2)
+    tie.close (tie.spec (λ c κs. search rules) (λ c. search rules) (λ c κs. search rules) returns-then-temperature-le15 returns-else-temperature-le15)

@@ -4,26 +4,26 @@ use Rattle.rules.specs.AgeNitrate.{capacity}
 use Rattle.reactor.proofs.nitrate.capacity.Statement.{statement}
 use Rattle.reactor.proofs.nitrate.capacity.Tie as tie
 
-returns : tie.Need-returns
+returns-in-PreAnoxic : tie.Need-returns-in-PreAnoxic
 unfolding capacity
-returns c = (
-  rw (c.before.before.enum_told.given.1, ← c.before.table-capacity.ensures.0) c.risen-capacity.ensures.0,
-  c.risen-capacity.ensures.1,
+returns-in-PreAnoxic c = (
+  rw (c.before.before.in-PreAnoxic.is, ← c.before.table_capacity.ensures.0) c.risen_capacity.ensures.0,
+  c.risen_capacity.ensures.1,
 )
 
-returns-2 : tie.Need-returns-2
+returns-in-Simultaneous : tie.Need-returns-in-Simultaneous
 unfolding capacity
-returns-2 c = (rw c.before.enum-told2.given.1 c.uptake-capacity.ensures.0, c.uptake-capacity.ensures.1)
+returns-in-Simultaneous c = (rw c.before.in-Simultaneous.is c.uptake_capacity.ensures.0, c.uptake_capacity.ensures.1)
 
-returns-3 : tie.Need-returns-3
+returns-in-Intermittent : tie.Need-returns-in-Intermittent
 unfolding capacity
-returns-3 c = (rw c.before.enum-told3.given.1 c.uptake-capacity2.ensures.0, c.uptake-capacity2.ensures.1)
+returns-in-Intermittent c = (rw c.before.in-Intermittent.is c.uptake_capacity-in-Intermittent.ensures.0, c.uptake_capacity-in-Intermittent.ensures.1)
 
-returns-4 : tie.Need-returns-4
+returns-in-StepFeed : tie.Need-returns-in-StepFeed
 unfolding capacity
-returns-4 c = (
-  rw (c.before.before.enum-told4.given.1, ← c.before.table-capacity2.ensures.0) c.risen-capacity2.ensures.0,
-  c.risen-capacity2.ensures.1,
+returns-in-StepFeed c = (
+  rw (c.before.before.in-StepFeed.is, ← c.before.table_capacity-in-StepFeed.ensures.0) c.risen_capacity-in-StepFeed.ensures.0,
+  c.risen_capacity-in-StepFeed.ensures.1,
 )
 
 pub capacity_spec : {M : Type 1} → statement M
@@ -40,7 +40,7 @@ capacity_spec =
     (λ c. search rules)
     (λ c κs. search rules)
     (λ c κs. search rules)
-    returns
-    returns-2
-    returns-3
-    returns-4)
+    returns-in-PreAnoxic
+    returns-in-Simultaneous
+    returns-in-Intermittent
+    returns-in-StepFeed)

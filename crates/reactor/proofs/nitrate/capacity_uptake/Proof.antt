@@ -8,9 +8,9 @@ use Rattle.rules.proofs.Quotients.{limited}
 use Rattle.reactor.proofs.nitrate.capacity_uptake.Statement.{statement}
 use Rattle.reactor.proofs.nitrate.capacity_uptake.Tie as tie
 
-add-result-2 : tie.Need-overflow-add-result-2
+overflow_add-result-2 : tie.Need-overflow_add-result-2
 unfolding capacity_uptake
-add-result-2 c = omega (arith, capacity_uptake_most c.args.corrected)
+overflow_add-result-2 c = omega (arith, capacity_uptake_most c.args.corrected)
 
 returns : tie.Need-returns
 unfolding capacity_uptake
@@ -18,4 +18,4 @@ returns c = limited refl (capacity_uptake_most c.args.corrected)
 
 pub capacity_uptake_spec : {M : Type 1} → statement M
 capacity_uptake_spec =
-    tie.close (tie.spec (λ c. search rules) (λ c. search rules) (λ c. search rules) (λ c. search rules) add-result-2 returns)
+    tie.close (tie.spec (λ c. search rules) (λ c. search rules) (λ c. search rules) (λ c. search rules) overflow_add-result-2 returns)

@@ -6,12 +6,12 @@ use Rattle.rules.specs.AgeNitrate.{removes_by_bod}
 use Rattle.reactor.proofs.nitrate.removes_by_bod.Statement.{statement}
 use Rattle.reactor.proofs.nitrate.removes_by_bod.Tie as tie
 
-mul-result : tie.Need-overflow-mul-result
-mul-result c = omega (arith, mul-le-mul c.capacity.ensures.1 c.before.requires.0.bod.most)
+overflow_mul-result : tie.Need-overflow_mul-result
+overflow_mul-result c = omega (arith, mul-le-mul c.capacity.ensures.1 c.before.requires.0.bod.most)
 
 returns : tie.Need-returns
 unfolding removes_by_bod
 returns c = (rw c.capacity.ensures.0, omega (arith, mul-le-mul c.capacity.ensures.1 c.before.requires.0.bod.most))
 
 pub removes_by_bod_spec : {M : Type 1} → statement M
-removes_by_bod_spec = tie.close (tie.spec (λ c κs. search rules) mul-result returns)
+removes_by_bod_spec = tie.close (tie.spec (λ c κs. search rules) overflow_mul-result returns)

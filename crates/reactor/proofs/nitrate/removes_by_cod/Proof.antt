@@ -4,25 +4,25 @@ use Rattle.rules.specs.AgeNitrate.{removes_by_cod}
 use Rattle.reactor.proofs.nitrate.removes_by_cod.Statement.{statement}
 use Rattle.reactor.proofs.nitrate.removes_by_cod.Tie as tie
 
-returns : tie.Need-returns
+returns-in-PreAnoxic : tie.Need-returns-in-PreAnoxic
 unfolding removes_by_cod
-returns c =
-    let told = c.before.enum_told.given.1 in
-    (rw told (rw told at c.removes-by-bod.ensures.0), c.removes-by-bod.ensures.1)
+returns-in-PreAnoxic c =
+    let told = c.before.in-PreAnoxic.is in
+    (rw told (rw told at c.removes_by_bod.ensures.0), c.removes_by_bod.ensures.1)
 
-returns-2 : tie.Need-returns-2
+returns-in-Simultaneous : tie.Need-returns-in-Simultaneous
 unfolding removes_by_cod
-returns-2 c = (rw c.before.enum-told2.given.1 c.removed-by-oxygen.ensures.0, c.removed-by-oxygen.ensures.1)
+returns-in-Simultaneous c = (rw c.before.in-Simultaneous.is c.removed_by_oxygen.ensures.0, c.removed_by_oxygen.ensures.1)
 
-returns-3 : tie.Need-returns-3
+returns-in-Intermittent : tie.Need-returns-in-Intermittent
 unfolding removes_by_cod
-returns-3 c = (rw c.before.enum-told3.given.1 c.removed-by-oxygen2.ensures.0, c.removed-by-oxygen2.ensures.1)
+returns-in-Intermittent c = (rw c.before.in-Intermittent.is c.removed_by_oxygen-in-Intermittent.ensures.0, c.removed_by_oxygen-in-Intermittent.ensures.1)
 
-returns-4 : tie.Need-returns-4
+returns-in-StepFeed : tie.Need-returns-in-StepFeed
 unfolding removes_by_cod
-returns-4 c =
-    let told = c.before.enum-told4.given.1 in
-    (rw told (rw told at c.removes-by-bod2.ensures.0), c.removes-by-bod2.ensures.1)
+returns-in-StepFeed c =
+    let told = c.before.in-StepFeed.is in
+    (rw told (rw told at c.removes_by_bod-in-StepFeed.ensures.0), c.removes_by_bod-in-StepFeed.ensures.1)
 
 pub removes_by_cod_spec : {M : Type 1} → statement M
 removes_by_cod_spec =
@@ -36,7 +36,7 @@ removes_by_cod_spec =
     (λ c κs. search rules)
     (λ c. search rules)
     (λ c κs. search rules)
-    returns
-    returns-2
-    returns-3
-    returns-4)
+    returns-in-PreAnoxic
+    returns-in-Simultaneous
+    returns-in-Intermittent
+    returns-in-StepFeed)

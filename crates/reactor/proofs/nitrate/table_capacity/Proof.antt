@@ -6,17 +6,17 @@ use Rattle.rules.specs.AgeNitrate.{table_capacity}
 use Rattle.reactor.proofs.nitrate.table_capacity.Statement.{statement}
 use Rattle.reactor.proofs.nitrate.table_capacity.Tie as tie
 
-returns : tie.Need-returns
+returns-then-fraction-le300 : tie.Need-returns-then-fraction-le300
 unfolding table_capacity
-returns c = (simp (le-leb _ _ c.if1.true), omega arith)
+returns-then-fraction-le300 c = (simp (le-leb _ _ c.if-fraction-le300.true), omega arith)
 
-returns-2 : tie.Need-returns-2
+returns-then-fraction-le400 : tie.Need-returns-then-fraction-le400
 unfolding table_capacity
-returns-2 c = (simp (lt-leb _ _ c.before.if1.false, le-leb _ _ c.if2.true), omega arith)
+returns-then-fraction-le400 c = (simp (lt-leb _ _ c.before.if-fraction-le300.false, le-leb _ _ c.if-fraction-le400.true), omega arith)
 
-returns-3 : tie.Need-returns-3
+returns-else-fraction-le400 : tie.Need-returns-else-fraction-le400
 unfolding table_capacity
-returns-3 c = (simp (lt-leb _ _ c.before.if1.false, lt-leb _ _ c.if2.false), omega arith)
+returns-else-fraction-le400 c = (simp (lt-leb _ _ c.before.if-fraction-le300.false, lt-leb _ _ c.if-fraction-le400.false), omega arith)
 
 pub table_capacity_spec : {M : Type 1} → statement M
 table_capacity_spec =
@@ -31,6 +31,6 @@ table_capacity_spec =
     (λ c. search rules)
     (λ c. search rules)
     (λ c. search rules)
-    returns
-    returns-2
-    returns-3)
+    returns-then-fraction-le300
+    returns-then-fraction-le400
+    returns-else-fraction-le400)

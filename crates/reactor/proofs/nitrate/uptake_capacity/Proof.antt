@@ -7,16 +7,16 @@ use Rattle.reactor.proofs.NitrateLimits.{uptake_product}
 use Rattle.reactor.proofs.nitrate.uptake_capacity.Statement.{statement}
 use Rattle.reactor.proofs.nitrate.uptake_capacity.Tie as tie
 
-product : (c : tie.After-capacity-uptake) → 75 * c.before.args.fraction * c.capacity-uptake.result ≤ 54_112_500
-product c = uptake_product c.before.args.fraction c.capacity-uptake.result (search rules) (search rules)
+product : (c : tie.After-capacity_uptake) → 75 * c.before.args.fraction * c.capacity_uptake.result ≤ 54_112_500
+product c = uptake_product c.before.args.fraction c.capacity_uptake.result (search rules) (search rules)
 
-mul-result-2 : tie.Need-overflow-mul-result-2
-mul-result-2 c = omega (arith, product c)
+overflow_mul-result-2 : tie.Need-overflow_mul-result-2
+overflow_mul-result-2 c = omega (arith, product c)
 
 returns : tie.Need-returns
 unfolding uptake_capacity
-returns c = (rw c.capacity-uptake.ensures.0, omega (arith, product c))
+returns c = (rw c.capacity_uptake.ensures.0, omega (arith, product c))
 
 pub uptake_capacity_spec : {M : Type 1} → statement M
 uptake_capacity_spec =
-    tie.close (tie.spec (λ c. search rules) (λ c κs. search rules) mul-result-2 returns)
+    tie.close (tie.spec (λ c. search rules) (λ c κs. search rules) overflow_mul-result-2 returns)

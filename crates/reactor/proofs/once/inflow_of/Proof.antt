@@ -12,17 +12,17 @@ returns c =
     let denitrified = by_dose.before in
     let nitrified = denitrified.before in (
       rw (
-        c.phosphorus-sludge.ensures.0,
-        share.sludge-per-phosphorus.ensures.0,
-        by_dose.removed-by-dose.ensures.0,
-        denitrified.denitrified.ensures.0,
-        nitrified.nitrified.ensures.0,
+        c.phosphorus_sludge-phosphorus_sludge.ensures.0,
+        share.sludge_per_phosphorus-k.ensures.0,
+        by_dose.removed_by_dose-removed_by_dose.ensures.0,
+        denitrified.denitrified-denitrified.ensures.0,
+        nitrified.nitrified-nitrified.ensures.0,
       ),
       record {
-        nitrified = nitrified.nitrified.ensures.1;
-        denitrified = denitrified.denitrified.ensures.1;
-        by_dose = by_dose.removed-by-dose.ensures.1;
-        phosphorus = c.phosphorus-sludge.ensures.1;
+        nitrified = nitrified.nitrified-nitrified.ensures.1;
+        denitrified = denitrified.denitrified-denitrified.ensures.1;
+        by_dose = by_dose.removed_by_dose-removed_by_dose.ensures.1;
+        phosphorus = c.phosphorus_sludge-phosphorus_sludge.ensures.1;
       },
     )
 

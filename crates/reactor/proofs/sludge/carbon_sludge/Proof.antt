@@ -7,35 +7,35 @@ use Rattle.reactor.proofs.SludgeLimits.{carbon_sum, carbon_product}
 use Rattle.reactor.proofs.sludge.carbon_sludge.Statement.{statement}
 use Rattle.reactor.proofs.sludge.carbon_sludge.Tie as tie
 
-sum : (c : tie.After-biomass-decay) → (750 - c.biomass-decay.result) * c.before.args.bod + 600 * c.before.args.solids ≤ 2_700_000_000
-sum c = carbon_sum c.biomass-decay.result c.before.args.bod c.before.args.solids (search rules) (search rules)
+sum : (c : tie.After-biomass_decay) → (750 - c.biomass_decay.result) * c.before.args.bod + 600 * c.before.args.solids ≤ 2_700_000_000
+sum c = carbon_sum c.biomass_decay.result c.before.args.bod c.before.args.solids (search rules) (search rules)
 
 product :
-    (c : tie.After-biomass-decay) →
-    c.before.args.flow * ((750 - c.biomass-decay.result) * c.before.args.bod + 600 * c.before.args.solids)
+    (c : tie.After-biomass_decay) →
+    c.before.args.flow * ((750 - c.biomass_decay.result) * c.before.args.bod + 600 * c.before.args.solids)
     ≤ 540_000_000_000_000
 product c =
-    carbon_product c.before.args.flow c.biomass-decay.result c.before.args.bod c.before.args.solids
+    carbon_product c.before.args.flow c.biomass_decay.result c.before.args.bod c.before.args.solids
     (search rules)
     (search rules)
     (search rules)
 
-mul-round-up : tie.Need-overflow-mul-round-up
-mul-round-up c = omega (arith, sum c)
+overflow_mul-biomass_decay : tie.Need-overflow_mul-biomass_decay
+overflow_mul-biomass_decay c = omega (arith, sum c)
 
-add-round-up : tie.Need-overflow-add-round-up
-add-round-up c = omega (arith, sum c)
+overflow_add-biomass_decay : tie.Need-overflow_add-biomass_decay
+overflow_add-biomass_decay c = omega (arith, sum c)
 
-mul-round-up-3 : tie.Need-overflow-mul-round-up-3
-mul-round-up-3 c = omega (arith, product c)
+overflow_mul-flow : tie.Need-overflow_mul-flow
+overflow_mul-flow c = omega (arith, product c)
 
-round-up-requires : tie.Need-round-up-requires
-round-up-requires c κs = omega (arith, product c)
+round_up-requires : tie.Need-round_up-requires
+round_up-requires c κs = omega (arith, product c)
 
 returns : tie.Need-returns
 unfolding carbon_sludge
 returns c =
-    (rw (← c.before.biomass-decay.ensures.0) c.round_up.ensures, omega (arith, product c.before, c.round_up.ensures))
+    (rw (← c.before.biomass_decay.ensures.0) c.round_up.ensures, omega (arith, product c.before, c.round_up.ensures))
 
 pub carbon_sludge_spec : {M : Type 1} → statement M
 carbon_sludge_spec =
@@ -43,9 +43,9 @@ carbon_sludge_spec =
     (tie.spec
     (λ c κs. search rules)
     (λ c. search rules)
-    mul-round-up
+    overflow_mul-biomass_decay
     (λ c. search rules)
-    add-round-up
-    mul-round-up-3
-    round-up-requires
+    overflow_add-biomass_decay
+    overflow_mul-flow
+    round_up-requires
     returns)

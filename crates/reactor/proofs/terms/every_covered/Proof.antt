@@ -8,7 +8,7 @@ returns c =
     let third = c.before in
     let second = third.before in
     let first = second.before in
-    rw (c.covered-in4.ensures, third.covered-in3.ensures, second.covered-in2.ensures, first.covered-in.ensures)
+    rw (c.covered_in-4.ensures, third.covered_in-3.ensures, second.covered_in-2.ensures, first.covered_in.ensures)
 
 pub every_covered_spec : {M : Type 1} → statement M
 every_covered_spec =

@@ -8,7 +8,7 @@ returns c =
     let third = c.before in
     let second = third.before in
     let first = second.before in
-    rw (c.nitrified-in4.ensures, third.nitrified-in3.ensures, second.nitrified-in2.ensures, first.nitrified-in.ensures)
+    rw (c.nitrified_in-4.ensures, third.nitrified_in-3.ensures, second.nitrified_in-2.ensures, first.nitrified_in.ensures)
 
 pub every_nitrified_spec : {M : Type 1} → statement M
 every_nitrified_spec =

@@ -5,17 +5,17 @@ use Rattle.reactor.specs.Seasons.{season_fraction}
 use Rattle.reactor.proofs.terms.season_fraction.Statement.{statement}
 use Rattle.reactor.proofs.terms.season_fraction.Tie as tie
 
-returns : tie.Need-returns
+returns-then-left-fraction : tie.Need-returns-then-left-fraction
 unfolding season_fraction
-returns c =
+returns-then-left-fraction c =
     let less = c.before in
-    omega (arith, less.less.ensures, less.before.aerobic-share.ensures, c.if1.true, less.before.before.requires.0)
+    omega (arith, less.less-left.ensures, less.before.aerobic_share.ensures, c.if-left-fraction.true, less.before.before.requires.0)
 
-returns-2 : tie.Need-returns-2
+returns-else-left-fraction : tie.Need-returns-else-left-fraction
 unfolding season_fraction
-returns-2 c =
+returns-else-left-fraction c =
     let less = c.before in
-    omega (arith, less.less.ensures, less.before.aerobic-share.ensures, c.if1.false, less.before.before.requires.0)
+    omega (arith, less.less-left.ensures, less.before.aerobic_share.ensures, c.if-left-fraction.false, less.before.before.requires.0)
 
 pub season_fraction_spec : {M : Type 1} → statement M
-season_fraction_spec = tie.close (tie.spec (λ c κs. search rules) (λ c κs. search rules) returns returns-2)
+season_fraction_spec = tie.close (tie.spec (λ c κs. search rules) (λ c κs. search rules) returns-then-left-fraction returns-else-left-fraction)

@@ -9,9 +9,9 @@ unfolding season_with
 returns c =
     let aged = c.before in
     let start = aged.before in (
-      rw (c.decay.ensures.0, aged.aerobic-age.ensures.0),
-      record { temperature = start.requires.1.most; age = aged.aerobic-age.ensures.1.most; decay = c.decay.ensures.1 },
-      λ warm. record { least = aged.aerobic-age.ensures.1.least; most = aged.aerobic-age.ensures.2 warm },
+      rw (c.decay-decay.ensures.0, aged.aerobic_age-aerobic_age.ensures.0),
+      record { temperature = start.requires.1.most; age = aged.aerobic_age-aerobic_age.ensures.1.most; decay = c.decay-decay.ensures.1 },
+      λ warm. record { least = aged.aerobic_age-aerobic_age.ensures.1.least; most = aged.aerobic_age-aerobic_age.ensures.2 warm },
     )
 
 pub season_with_spec : {M : Type 1} → statement M

@@ -6,37 +6,37 @@ use Rattle.reactor.specs.Seasons.{seasons_of}
 use Rattle.reactor.proofs.terms.seasons_of.Statement.{statement}
 use Rattle.reactor.proofs.terms.seasons_of.Tie as tie
 
-season-with-requires : tie.Need-season-with-requires
-season-with-requires c κs =
+season_with-design-requires : tie.Need-season_with-design-requires
+season_with-design-requires c κs =
     let start = c.before.before.before.before.before in
-    (c.safety-factor.ensures.1, omega (arith, start.requires.0.design))
+    (c.safety_factor-factor.ensures.1, omega (arith, start.requires.0.design))
 
-season-at-requires : tie.Need-season-at-requires
-season-at-requires c κs =
+season_at-first-requires : tie.Need-season_at-first-requires
+season_at-first-requires c κs =
     let factor = c.before.before.before.before.before in
     let start = factor.before.before.before.before.before in
-    (factor.safety-factor.ensures.1, (valid_entries start.args.plant.consent start.requires.0.consent).first)
+    (factor.safety_factor-factor.ensures.1, (valid_entries start.args.plant.consent start.requires.0.consent).first)
 
-season-at-requires-2 : tie.Need-season-at-requires-2
-season-at-requires-2 c κs =
+season_at-second-requires : tie.Need-season_at-second-requires
+season_at-second-requires c κs =
     let factor = c.before.before.before.before.before.before in
     let start = factor.before.before.before.before.before in
-    (factor.safety-factor.ensures.1, (valid_entries start.args.plant.consent start.requires.0.consent).second)
+    (factor.safety_factor-factor.ensures.1, (valid_entries start.args.plant.consent start.requires.0.consent).second)
 
-season-at-requires-3 : tie.Need-season-at-requires-3
-season-at-requires-3 c κs =
+season_at-third-requires : tie.Need-season_at-third-requires
+season_at-third-requires c κs =
     let factor = c.before.before.before.before.before.before.before in
     let start = factor.before.before.before.before.before in
-    (factor.safety-factor.ensures.1, (valid_entries start.args.plant.consent start.requires.0.consent).third)
+    (factor.safety_factor-factor.ensures.1, (valid_entries start.args.plant.consent start.requires.0.consent).third)
 
-season-at-requires-4 : tie.Need-season-at-requires-4
-season-at-requires-4 c κs =
+season_at-fourth-requires : tie.Need-season_at-fourth-requires
+season_at-fourth-requires c κs =
     let factor = c.before.before.before.before.before.before.before.before in
     let start = factor.before.before.before.before.before in
-    (factor.safety-factor.ensures.1, (valid_entries start.args.plant.consent start.requires.0.consent).fourth)
+    (factor.safety_factor-factor.ensures.1, (valid_entries start.args.plant.consent start.requires.0.consent).fourth)
 
-inflow-of-requires : tie.Need-inflow-of-requires
-inflow-of-requires c κs = c.before.before.before.before.before.before.before.before.before.before.before.before.before.before.requires
+inflow_of-inflow-requires : tie.Need-inflow_of-inflow-requires
+inflow_of-inflow-requires c κs = c.before.before.before.before.before.before.before.before.before.before.before.before.before.before.requires
 
 returns : tie.Need-returns
 unfolding seasons_of
@@ -51,23 +51,23 @@ returns c =
     record {
       value =
           rw (
-            c.inflow-of.ensures.0,
-            fourth.season-at4.ensures.0,
-            third.season-at3.ensures.0,
-            second.season-at2.ensures.0,
-            first.season-at.ensures.0,
-            design.season-with.ensures.0,
-            factor.safety-factor.ensures.0,
+            c.inflow_of-inflow.ensures.0,
+            fourth.season_at-fourth.ensures.0,
+            third.season_at-third.ensures.0,
+            second.season_at-second.ensures.0,
+            first.season_at-first.ensures.0,
+            design.season_with-design.ensures.0,
+            factor.safety_factor-factor.ensures.0,
           );
       bounds =
           record {
-            inflow = c.inflow-of.ensures.1;
-            design = design.season-with.ensures.1;
-            design_age = design.season-with.ensures.2 start.requires.0.design.least;
-            first = first.season-at.ensures.1;
-            second = second.season-at2.ensures.1;
-            third = third.season-at3.ensures.1;
-            fourth = fourth.season-at4.ensures.1;
+            inflow = c.inflow_of-inflow.ensures.1;
+            design = design.season_with-design.ensures.1;
+            design_age = design.season_with-design.ensures.2 start.requires.0.design.least;
+            first = first.season_at-first.ensures.1;
+            second = second.season_at-second.ensures.1;
+            third = third.season_at-third.ensures.1;
+            fourth = fourth.season_at-fourth.ensures.1;
           };
     }
 
@@ -79,10 +79,10 @@ seasons_of_spec =
     (λ c. search rules)
     (λ c. search rules)
     (λ c κs. search rules)
-    season-with-requires
-    season-at-requires
-    season-at-requires-2
-    season-at-requires-3
-    season-at-requires-4
-    inflow-of-requires
+    season_with-design-requires
+    season_at-first-requires
+    season_at-second-requires
+    season_at-third-requires
+    season_at-fourth-requires
+    inflow_of-inflow-requires
     returns)

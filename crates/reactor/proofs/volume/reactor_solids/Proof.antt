@@ -6,25 +6,25 @@ use Rattle.rules.specs.ReactorSteps.{reactor_solids}
 use Rattle.reactor.proofs.volume.reactor_solids.Statement.{statement}
 use Rattle.reactor.proofs.volume.reactor_solids.Tie as tie
 
-returns : tie.Need-returns
+returns-in-PreAnoxic : tie.Need-returns-in-PreAnoxic
 unfolding reactor_solids
-returns c = search rules
+returns-in-PreAnoxic c = search rules
 
-returns-2 : tie.Need-returns-2
+returns-in-Simultaneous : tie.Need-returns-in-Simultaneous
 unfolding reactor_solids
-returns-2 c = search rules
+returns-in-Simultaneous c = search rules
 
-returns-3 : tie.Need-returns-3
+returns-in-Intermittent : tie.Need-returns-in-Intermittent
 unfolding reactor_solids
-returns-3 c = search rules
+returns-in-Intermittent c = search rules
 
-returns-4 : tie.Need-returns-4
+returns-in-Two : tie.Need-returns-in-Two
 unfolding reactor_solids
-returns-4 c = ((cc), omega arith)
+returns-in-Two c = ((cc), omega arith)
 
-returns-5 : tie.Need-returns-5
+returns-in-Three : tie.Need-returns-in-Three
 unfolding reactor_solids
-returns-5 c = ((cc), omega arith)
+returns-in-Three c = ((cc), omega arith)
 
 pub reactor_solids_spec : {M : Type 1} → statement M
-reactor_solids_spec = tie.close (tie.spec (λ c. search rules) (λ c. search rules) (λ c. search rules) (λ c. search rules) (λ c. search rules) (λ c. search rules) (λ c. search rules) (λ c. search rules) returns returns-2 returns-3 returns-4 returns-5)
+reactor_solids_spec = tie.close (tie.spec (λ c. search rules) (λ c. search rules) (λ c. search rules) (λ c. search rules) (λ c. search rules) (λ c. search rules) (λ c. search rules) (λ c. search rules) returns-in-PreAnoxic returns-in-Simultaneous returns-in-Intermittent returns-in-Two returns-in-Three)

@@ -1,0 +1,13 @@
+-- `tank_flow` meets its contract: each code gives its kind, and any other the last. Assumes nothing.
+use native.Mathlib.Omega.{arith}
+use borrow.Author.Tests.{ne_eqb}
+use Rattle.request.specs.Kinds.{tank_flow_of}
+use Rattle.request.proofs.tank_flow.Goals as goal
+
+pub returns-in-0 : goal.returns-in-0
+unfolding tank_flow_of
+returns-in-0 c = simp c.in-0.is
+
+pub returns-in_default : goal.returns-in_default
+unfolding tank_flow_of
+returns-in_default c = simp (ne_eqb c.args.code 0 (omega arith))

@@ -1,0 +1,13 @@
+-- `way` meets its contract: each code gives its kind, and any other the last. Assumes nothing.
+use native.Mathlib.Omega.{arith}
+use borrow.Author.Tests.{ne_eqb}
+use Rattle.request.specs.Kinds.{way_of}
+use Rattle.request.proofs.way.Goals as goal
+
+pub returns-in-0 : goal.returns-in-0
+unfolding way_of
+returns-in-0 c = simp c.in-0.is
+
+pub returns-in_default : goal.returns-in_default
+unfolding way_of
+returns-in_default c = simp (ne_eqb c.args.code 0 (omega arith))
