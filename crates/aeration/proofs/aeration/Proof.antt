@@ -15,14 +15,14 @@ returns c =
     let carbon = own.before in
     let corrected = carbon.before in
     rw (
-      c.recirculated.ensures,
-      transfer.transfer.ensures,
-      hourly.hourly-oxygen.ensures.0,
-      nitrification.nitrification-oxygen.ensures.0,
-      net.net-carbon.ensures.0,
-      own.denitrified-by-bod.ensures.0,
-      carbon.carbon-oxygen-in.ensures.0,
-      corrected.corrected-age.ensures.0,
+      c.recirculated-recirculation.ensures,
+      transfer.transfer-transfer.ensures,
+      hourly.hourly_oxygen-oxygen.ensures.0,
+      nitrification.nitrification_oxygen-nitrification.ensures.0,
+      net.net_carbon-net.ensures.0,
+      own.denitrified_by_bod-own.ensures.0,
+      carbon.carbon_oxygen_in-carbon.ensures.0,
+      corrected.corrected_age-corrected.ensures.0,
     )
 
 pub aeration_spec : {M : Type 1} → statement M

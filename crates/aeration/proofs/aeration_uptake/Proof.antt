@@ -8,9 +8,9 @@ use native.Mathlib.Omega.{arith}
 use Rattle.aeration.proofs.aeration_uptake.Statement.{statement}
 use Rattle.aeration.proofs.aeration_uptake.Tie as tie
 
-add-result : tie.Need-overflow-add-result
+overflow_add-result : tie.Need-overflow_add-result
 unfolding aeration_uptake
-add-result c = omega (arith, uptake_most c.before.args.corrected)
+overflow_add-result c = omega (arith, uptake_most c.before.args.corrected)
 
 returns : tie.Need-returns
 unfolding aeration_uptake
@@ -19,4 +19,4 @@ returns c = (ap (λ (n : ℕ). 560 + n) c.round_up.ensures, omega (arith, uptake
 pub aeration_uptake_spec : {M : Type 1} → statement M
 aeration_uptake_spec =
     tie.close
-    (tie.spec (λ c. search rules) (λ c. search rules) (λ c. search rules) (λ c κs. search rules) add-result returns)
+    (tie.spec (λ c. search rules) (λ c. search rules) (λ c. search rules) (λ c κs. search rules) overflow_add-result returns)

@@ -6,18 +6,18 @@ use native.Mathlib.Omega.{arith}
 use Rattle.aeration.proofs.carbon_oxygen.Statement.{statement}
 use Rattle.aeration.proofs.carbon_oxygen.Tie as tie
 
-mul-round-up : tie.Need-overflow-mul-round-up
-mul-round-up c = omega (arith, mul-le-mul c.requires.0 c.requires.1)
+overflow_mul-flow : tie.Need-overflow_mul-flow
+overflow_mul-flow c = omega (arith, mul-le-mul c.requires.0 c.requires.1)
 
-mul-round-up-2 : tie.Need-overflow-mul-round-up-2
-mul-round-up-2 c = omega (arith, carbon_product c.args.flow c.args.bod c.args.uptake c.requires.0 c.requires.1 c.requires.2)
+overflow_mul-flow-2 : tie.Need-overflow_mul-flow-2
+overflow_mul-flow-2 c = omega (arith, carbon_product c.args.flow c.args.bod c.args.uptake c.requires.0 c.requires.1 c.requires.2)
 
-round-up-requires : tie.Need-round-up-requires
-round-up-requires c κs = omega (arith, carbon_product c.args.flow c.args.bod c.args.uptake c.requires.0 c.requires.1 c.requires.2)
+round_up-requires : tie.Need-round_up-requires
+round_up-requires c κs = omega (arith, carbon_product c.args.flow c.args.bod c.args.uptake c.requires.0 c.requires.1 c.requires.2)
 
 returns : tie.Need-returns
 unfolding carbon_oxygen
 returns c = (c.round_up.ensures, omega (arith, carbon_product c.before.args.flow c.before.args.bod c.before.args.uptake c.before.requires.0 c.before.requires.1 c.before.requires.2))
 
 pub carbon_oxygen_spec : {M : Type 1} → statement M
-carbon_oxygen_spec = tie.close (tie.spec mul-round-up mul-round-up-2 round-up-requires returns)
+carbon_oxygen_spec = tie.close (tie.spec overflow_mul-flow overflow_mul-flow-2 round_up-requires returns)

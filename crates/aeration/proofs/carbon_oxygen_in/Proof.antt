@@ -5,16 +5,16 @@ use Rattle.rules.specs.AerationSteps.{carbon_oxygen_in}
 use Rattle.aeration.proofs.carbon_oxygen_in.Statement.{statement}
 use Rattle.aeration.proofs.carbon_oxygen_in.Tie as tie
 
-returns : tie.Need-returns
+returns-in-Bod : tie.Need-returns-in-Bod
 unfolding carbon_oxygen_in
-returns c = (
-  rw (c.before.before.enum_told.given.1, ← c.before.aeration-uptake.ensures.0) c.carbon-oxygen.ensures.0,
-  omega (arith, c.carbon-oxygen.ensures.1),
+returns-in-Bod c = (
+  rw (c.before.before.in-Bod.is, ← c.before.aeration_uptake.ensures.0) c.carbon_oxygen.ensures.0,
+  omega (arith, c.carbon_oxygen.ensures.1),
 )
 
-returns-2 : tie.Need-returns-2
+returns-in-Cod : tie.Need-returns-in-Cod
 unfolding carbon_oxygen_in
-returns-2 c = (rw c.before.enum-told2.given.1 c.carbon-oxygen2.ensures.0, c.carbon-oxygen2.ensures.1)
+returns-in-Cod c = (rw c.before.in-Cod.is c.carbon_oxygen-in-Cod.ensures.0, c.carbon_oxygen-in-Cod.ensures.1)
 
 pub carbon_oxygen_in_spec : {M : Type 1} → statement M
 carbon_oxygen_in_spec =
@@ -25,5 +25,5 @@ carbon_oxygen_in_spec =
     (λ c κs. search rules)
     (λ c. search rules)
     (λ c κs. search rules)
-    returns
-    returns-2)
+    returns-in-Bod
+    returns-in-Cod)

@@ -6,11 +6,11 @@ use native.Mathlib.Omega.{arith}
 use Rattle.aeration.proofs.nitrification_oxygen.Statement.{statement}
 use Rattle.aeration.proofs.nitrification_oxygen.Tie as tie
 
-mul-round-up-2 : tie.Need-overflow-mul-round-up-2
-mul-round-up-2 c = omega (arith, mul-le-mul c.requires.0 c.requires.1)
+overflow_mul-flow-2 : tie.Need-overflow_mul-flow-2
+overflow_mul-flow-2 c = omega (arith, mul-le-mul c.requires.0 c.requires.1)
 
-round-up-requires : tie.Need-round-up-requires
-round-up-requires c κs = omega (arith, mul-le-mul c.requires.0 c.requires.1)
+round_up-requires : tie.Need-round_up-requires
+round_up-requires c κs = omega (arith, mul-le-mul c.requires.0 c.requires.1)
 
 returns : tie.Need-returns
 unfolding nitrification_oxygen
@@ -18,4 +18,4 @@ returns c = (c.round_up.ensures, omega (arith, mul-le-mul c.before.requires.0 c.
 
 pub nitrification_oxygen_spec : {M : Type 1} → statement M
 nitrification_oxygen_spec =
-    tie.close (tie.spec (λ c. search rules) mul-round-up-2 round-up-requires returns)
+    tie.close (tie.spec (λ c. search rules) overflow_mul-flow-2 round_up-requires returns)

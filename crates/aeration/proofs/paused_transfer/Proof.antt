@@ -6,14 +6,14 @@ use Rattle.aeration.proofs.Oxygen.{paused_product, paused_divisor}
 use Rattle.aeration.proofs.paused_transfer.Statement.{statement}
 use Rattle.aeration.proofs.paused_transfer.Tie as tie
 
-mul-round-up-2 : tie.Need-overflow-mul-round-up-2
-mul-round-up-2 c = omega (arith, paused_product c.args.saturation c.args.hourly c.requires.0.most c.requires.2)
+overflow_mul-saturation-2 : tie.Need-overflow_mul-saturation-2
+overflow_mul-saturation-2 c = omega (arith, paused_product c.args.saturation c.args.hourly c.requires.0.most c.requires.2)
 
-mul-round-up-3 : tie.Need-overflow-mul-round-up-3
-mul-round-up-3 c = omega (arith, paused_divisor c.args.saturation c.args.fraction c.requires.0 c.requires.1)
+overflow_mul-saturation-3 : tie.Need-overflow_mul-saturation-3
+overflow_mul-saturation-3 c = omega (arith, paused_divisor c.args.saturation c.args.fraction c.requires.0 c.requires.1)
 
-round-up-requires : tie.Need-round-up-requires
-round-up-requires c κs =
+round_up-requires : tie.Need-round_up-requires
+round_up-requires c κs =
     omega (
       arith,
       paused_product c.args.saturation c.args.hourly c.requires.0.most c.requires.2,
@@ -27,4 +27,4 @@ returns c = c.round_up.ensures
 pub paused_transfer_spec : {M : Type 1} → statement M
 paused_transfer_spec =
     tie.close
-    (tie.spec (λ c. search rules) mul-round-up-2 (λ c. search rules) (λ c. search rules) mul-round-up-3 round-up-requires returns)
+    (tie.spec (λ c. search rules) overflow_mul-saturation-2 (λ c. search rules) (λ c. search rules) overflow_mul-saturation-3 round_up-requires returns)

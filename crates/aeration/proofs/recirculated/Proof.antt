@@ -4,21 +4,21 @@ use Rattle.rules.specs.AerationSteps.{recirculation}
 use Rattle.aeration.proofs.recirculated.Statement.{statement}
 use Rattle.aeration.proofs.recirculated.Tie as tie
 
-returns : tie.Need-returns
+returns-in-PreAnoxic : tie.Need-returns-in-PreAnoxic
 unfolding recirculation
-returns c = rw c.before.enum_told.given.1 c.returned-flow.ensures
+returns-in-PreAnoxic c = rw c.before.in-PreAnoxic.is c.returned_flow.ensures
 
-returns-2 : tie.Need-returns-2
+returns-in-Simultaneous : tie.Need-returns-in-Simultaneous
 unfolding recirculation
-returns-2 c = rw c.enum-told2.given.1
+returns-in-Simultaneous c = rw c.in-Simultaneous.is
 
-returns-3 : tie.Need-returns-3
+returns-in-Intermittent : tie.Need-returns-in-Intermittent
 unfolding recirculation
-returns-3 c = rw c.enum-told3.given.1
+returns-in-Intermittent c = rw c.in-Intermittent.is
 
-returns-4 : tie.Need-returns-4
+returns-in-StepFeed : tie.Need-returns-in-StepFeed
 unfolding recirculation
-returns-4 c = rw c.enum-told4.given.1
+returns-in-StepFeed c = rw c.in-StepFeed.is
 
 pub recirculated_spec : {M : Type 1} → statement M
 recirculated_spec =
@@ -29,7 +29,7 @@ recirculated_spec =
     (λ c. search rules)
     (λ c. search rules)
     (λ c. search rules)
-    returns
-    returns-2
-    returns-3
-    returns-4)
+    returns-in-PreAnoxic
+    returns-in-Simultaneous
+    returns-in-Intermittent
+    returns-in-StepFeed)

@@ -6,12 +6,12 @@ use native.Mathlib.Omega.{arith}
 use Rattle.aeration.proofs.saved_oxygen.Statement.{statement}
 use Rattle.aeration.proofs.saved_oxygen.Tie as tie
 
-mul-result-2 : tie.Need-overflow-mul-result-2
-mul-result-2 c = omega (arith, mul-le-mul c.requires.0 c.requires.1)
+overflow_mul-result-2 : tie.Need-overflow_mul-result-2
+overflow_mul-result-2 c = omega (arith, mul-le-mul c.requires.0 c.requires.1)
 
 returns : tie.Need-returns
 unfolding saved_oxygen
 returns c = search rules
 
 pub saved_oxygen_spec : {M : Type 1} → statement M
-saved_oxygen_spec = tie.close (tie.spec (λ c. search rules) mul-result-2 returns)
+saved_oxygen_spec = tie.close (tie.spec (λ c. search rules) overflow_mul-result-2 returns)

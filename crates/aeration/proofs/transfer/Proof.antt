@@ -4,21 +4,21 @@ use Rattle.rules.specs.AerationSteps.{transfer_of}
 use Rattle.aeration.proofs.transfer.Statement.{statement}
 use Rattle.aeration.proofs.transfer.Tie as tie
 
-returns : tie.Need-returns
+returns-in-PreAnoxic : tie.Need-returns-in-PreAnoxic
 unfolding transfer_of
-returns c = rw c.before.enum_told.given.1 c.oxygen-transfer.ensures
+returns-in-PreAnoxic c = rw c.before.in-PreAnoxic.is c.oxygen_transfer.ensures
 
-returns-2 : tie.Need-returns-2
+returns-in-Simultaneous : tie.Need-returns-in-Simultaneous
 unfolding transfer_of
-returns-2 c = rw c.before.enum-told2.given.1 c.oxygen-transfer2.ensures
+returns-in-Simultaneous c = rw c.before.in-Simultaneous.is c.oxygen_transfer-in-Simultaneous.ensures
 
-returns-3 : tie.Need-returns-3
+returns-in-Intermittent : tie.Need-returns-in-Intermittent
 unfolding transfer_of
-returns-3 c = rw c.before.enum-told3.given.1 c.paused-transfer.ensures
+returns-in-Intermittent c = rw c.before.in-Intermittent.is c.paused_transfer.ensures
 
-returns-4 : tie.Need-returns-4
+returns-in-StepFeed : tie.Need-returns-in-StepFeed
 unfolding transfer_of
-returns-4 c = rw c.before.enum-told4.given.1 c.oxygen-transfer3.ensures
+returns-in-StepFeed c = rw c.before.in-StepFeed.is c.oxygen_transfer-in-StepFeed.ensures
 
 pub transfer_spec : {M : Type 1} → statement M
 transfer_spec =
@@ -32,7 +32,7 @@ transfer_spec =
     (λ c κs. search rules)
     (λ c. search rules)
     (λ c κs. search rules)
-    returns
-    returns-2
-    returns-3
-    returns-4)
+    returns-in-PreAnoxic
+    returns-in-Simultaneous
+    returns-in-Intermittent
+    returns-in-StepFeed)

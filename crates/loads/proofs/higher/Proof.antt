@@ -4,13 +4,13 @@ use Rattle.rules.specs.DayLog.{higher}
 use Rattle.loads.proofs.higher.Statement.{statement}
 use Rattle.loads.proofs.higher.Tie as tie
 
-returns : tie.Need-returns
+returns-then-best-sum : tie.Need-returns-then-best-sum
 unfolding higher
-returns c = rw (lt-ltb _ _ c.if1.true)
+returns-then-best-sum c = rw (lt-ltb _ _ c.if-best-sum.true)
 
-returns-2 : tie.Need-returns-2
+returns-else-best-sum : tie.Need-returns-else-best-sum
 unfolding higher
-returns-2 c = rw (le-ltb _ _ c.if1.false)
+returns-else-best-sum c = rw (le-ltb _ _ c.if-best-sum.false)
 
 pub higher_spec : {M : Type 1} → statement M
-higher_spec = tie.close (tie.spec returns returns-2)
+higher_spec = tie.close (tie.spec returns-then-best-sum returns-else-best-sum)

@@ -30,34 +30,34 @@ module _ (log : List ℕ) (count : ℕ) (e : count ≡ day_count log) where
       rw inside (ap (λ (n : ℕ). eqb (length log) (4 + 8 * n)) e)
 
 -- nothing wraps
-mul-result : tie.Need-overflow-mul-result
-mul-result c = omega arith
+overflow_mul-result : tie.Need-overflow_mul-result
+overflow_mul-result c = omega arith
 
-add-result : tie.Need-overflow-add-result
-add-result c = omega arith
+overflow_add-result : tie.Need-overflow_add-result
+overflow_add-result c = omega arith
+
+returns-then-log-lt4 : tie.Need-returns-then-log-lt4
+returns-then-log-lt4 c = too_short c.before.before.args.log.now c.if-log-lt4.true
+
+returns-then-not-within : tie.Need-returns-then-not-within
+returns-then-not-within c =
+    let tested = c.before in
+    out_of_range _ _ tested.before.word-count.ensures (sym tested.within.ensures ∙ c.if-not-within.true)
 
 returns : tie.Need-returns
-returns c = too_short c.before.before.args.log.now c.if1.true
-
-returns-2 : tie.Need-returns-2
-returns-2 c =
+returns c =
     let tested = c.before in
-    out_of_range _ _ tested.before.word.ensures (sym tested.within.ensures ∙ not-true _ c.if2.true)
-
-returns-3 : tie.Need-returns-3
-returns-3 c =
-    let tested = c.before in
-    in_range _ _ tested.before.word.ensures (sym tested.within.ensures ∙ not-false _ c.if2.false)
+    in_range _ _ tested.before.word-count.ensures (sym tested.within.ensures ∙ c.if-not-within.false)
 
 pub log_whole_spec : {M : Type 1} → statement M
 log_whole_spec =
     tie.close
     (tie.spec
-    returns
+    returns-then-log-lt4
     (λ c κs. search rules)
     (λ c κs. search rules)
-    returns-2
+    returns-then-not-within
     (λ c. search rules)
-    mul-result
-    add-result
-    returns-3)
+    overflow_mul-result
+    overflow_add-result
+    returns)

@@ -18,8 +18,8 @@ decreases-day log count window₀ i₀ window i = count - i
 day-holds : tie.Need-day-init invariant-day decreases-day
 day-holds c = (omega arith, none_passed _)
 
-step-requires : tie.Need-step-requires invariant-day decreases-day
-step-requires c κs =
+step-window-requires : tie.Need-step-window-requires invariant-day decreases-day
+step-window-requires c κs =
     let inside = c.before.before.before.before in
     let head = inside.before in
     room head.before.before.args.log.now head.day.i head.day.window head.day.invariant.1 (omega arith)
@@ -31,9 +31,9 @@ day-again c =
     let head = flow.before.before.before in
     let log = head.before.before.args.log.now in
     let day = day_read log head.before.before.args.count head.day.i _ _ _ _ head.before.before.requires.1
-    flow.before.word.ensures flow.float.ensures bod.before.word2.ensures bod.float2.ensures in (
+    flow.before.word.ensures flow.float.ensures bod.before.word-in-day.ensures bod.float-in-day.ensures in (
       omega arith,
-      subst (Passed log _) (sym (c.step.ensures ∙ ap (stepped head.day.window) day)) (one_more_passed log head.day.i head.day.window head.day.invariant.1),
+      subst (Passed log _) (sym (c.step-window.ensures ∙ ap (stepped head.day.window) day)) (one_more_passed log head.day.i head.day.window head.day.invariant.1),
     )
 
 returns : tie.Need-returns invariant-day decreases-day
@@ -56,7 +56,7 @@ pass_spec =
     (λ c. search rules)
     (λ c κs. search rules)
     (λ c κs. search rules)
-    step-requires
+    step-window-requires
     (λ c. search rules)
     (λ c. search rules)
     day-again

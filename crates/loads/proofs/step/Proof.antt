@@ -15,16 +15,16 @@ returns c =
     let after = c.before in
     let counted_value = after.before.before in
     let w = counted_value.before.before.before.args.window in
-    let load = counted_value.count-day.result in
+    let load = counted_value.count_day-load.result in
     (λ i.
     record {
       loads = set w.loads (w.days % 14) load.figure;
       sum = w.sum + load.figure - oldest w;
       days = w.days + 1;
-      highest = after.highest-after.ensures i;
+      highest = after.highest_after.ensures i;
       kept = w.kept && load.kept;
     })
-    ∙ ap (λ (l : Counted). moved w l.figure l.kept) counted_value.count-day.ensures.0
+    ∙ ap (λ (l : Counted). moved w l.figure l.kept) counted_value.count_day-load.ensures.0
 
 pub step_spec : {M : Type 1} → statement M
 step_spec =

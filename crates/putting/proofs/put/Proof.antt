@@ -4,15 +4,15 @@ use Rattle.putting.proofs.Outcomes.{listed, unlisted}
 use Rattle.putting.proofs.put.Statement.{statement}
 use Rattle.putting.proofs.put.Tie as tie
 
-returns : tie.Need-returns
-returns c =
-    listed _ _ _ _ c.before.before.before.before.before.before.write.ensures _ _ c.before.before.count.given.1
-    c.answer-number.ensures
+returns-in-Bytes : tie.Need-returns-in-Bytes
+returns-in-Bytes c =
+    listed _ _ _ _ c.write.ensures _ _ c.in-Bytes.is
+    c.answer_number.ensures
 
-returns-2 : tie.Need-returns-2
-returns-2 c =
-    unlisted _ _ _ _ c.before.before.before.before.before.before.write.ensures _ _ c.before.before.refusal.given.1
-    c.refusal-number.ensures
+returns-in-Refused : tie.Need-returns-in-Refused
+returns-in-Refused c =
+    unlisted _ _ _ _ c.write.ensures _ _ c.in-Refused.is
+    c.refusal_number.ensures
 
 pub put_spec : {M : Type 1} → statement M
 put_spec =
@@ -24,6 +24,6 @@ put_spec =
     (λ c. search rules)
     (λ c κs. search rules)
     (λ c. search rules)
-    returns
+    returns-in-Bytes
     (λ c. search rules)
-    returns-2)
+    returns-in-Refused)
