@@ -107,6 +107,8 @@ def turn(path, names, label):
                         p = p.replace("-", "_")
                     elif k in told and after == ["given", "1"]:
                         p, skip = told[k] + ".is", 2
+                    elif k in told and parts[i + 1 : i + 4] == ["given", "0", "0"]:
+                        p, skip = told[k] + "." + re.sub(r"\d+$", "", p).replace("-", "_"), 3
                     elif after and (k, after[0]) in arms and after[0] != "rest":
                         p, skip = arms[(k, after[0])] + ".is", 1
                     elif k in clash:

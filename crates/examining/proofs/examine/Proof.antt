@@ -10,23 +10,23 @@ use Rattle.examining.proofs.examine.Tie as tie
 
 judge-requires : tie.Need-judge-requires
 judge-requires c κs =
-    let start = c.before.before.before.before in
-    accepted_ranges start.args.plant start.args.readings c.before.concentrations.given.0.0
-    (sym c.before.before.before.accept.ensures ∙ c.before.concentrations.given.1)
+    let start = c.before in
+    accepted_ranges start.args.plant start.args.readings c.in-Accepted.concentrations
+    (sym c.accept.ensures ∙ c.in-Accepted.is)
 
-returns : tie.Need-returns
+returns-in-Refused : tie.Need-returns-in-Refused
 unfolding examine judge_accepted
-returns c =
-    let start = c.before.before.before.before in
+returns-in-Refused c =
+    let start = c.before in
     with_columns start.args.plant start.args.readings start.args.candidate _
-    (rw (sym c.before.before.before.accept.ensures ∙ c.before.refusal.given.1))
+    (rw (sym c.accept.ensures ∙ c.in-Refused.is))
 
-returns-2 : tie.Need-returns-2
+returns-in-Accepted : tie.Need-returns-in-Accepted
 unfolding examine judge_accepted
-returns-2 c =
-    let start = c.before.before.before.before.before in
+returns-in-Accepted c =
+    let start = c.before in
     with_columns start.args.plant start.args.readings start.args.candidate c.judge.result
-    (rw (sym c.before.before.before.before.accept.ensures ∙ c.before.before.concentrations.given.1) c.judge.ensures)
+    (rw (sym c.accept.ensures ∙ c.in-Accepted.is) c.judge.ensures)
 
 pub examine_spec : {M : Type 1} → statement M
 examine_spec =
@@ -36,5 +36,5 @@ examine_spec =
     (λ c. search rules)
     (λ c. search rules)
     judge-requires
-    returns
-    returns-2)
+    returns-in-Refused
+    returns-in-Accepted)

@@ -5,29 +5,29 @@ use Rattle.examining.proofs.Verdicts.{tank_broken, kept}
 use Rattle.examining.proofs.judge_tank.Statement.{statement}
 use Rattle.examining.proofs.judge_tank.Tie as tie
 
-returns : tie.Need-returns
-returns c =
-    let judged = c.before.before.before in
+returns-in-Broken : tie.Need-returns-in-Broken
+returns-in-Broken c =
+    let judged = c.before in
     let settled = judged.before in
     let start = settled.before in
-    tank_broken start.args.plant start.args.concentrations start.args.candidate settled.settling.result
-    settled.settling.ensures.0
-    c.before.refusal.given.0.0
-    (sym judged.tank-verdict.ensures ∙ c.before.refusal.given.1)
+    tank_broken start.args.plant start.args.concentrations start.args.candidate settled.settling-settling.result
+    settled.settling-settling.ensures.0
+    c.in-Broken.refusal
+    (sym judged.tank_verdict.ensures ∙ c.in-Broken.is)
 
-returns-2 : tie.Need-returns-2
-returns-2 c =
-    let told = c.before.before in
-    let judged = told.before.before in
+returns-in-Kept : tie.Need-returns-in-Kept
+returns-in-Kept c =
+    let told = c.before in
+    let judged = told.before in
     let settled = judged.before in
     let start = settled.before in
-    kept start.args.plant start.args.concentrations start.args.candidate settled.settling.result
-    settled.settling.ensures.0
-    (sym judged.tank-verdict.ensures ∙ told.enum_told.given.1)
-    start.args.reactor c.before.aeration.result c.sheet-from.result
+    kept start.args.plant start.args.concentrations start.args.candidate settled.settling-settling.result
+    settled.settling-settling.ensures.0
+    (sym judged.tank_verdict.ensures ∙ told.in-Kept.is)
+    start.args.reactor c.aeration-aeration.result c.sheet_from.result
     start.requires.0.3.value
-    c.before.aeration.ensures
-    c.sheet-from.ensures
+    c.aeration-aeration.ensures
+    c.sheet_from.ensures
 
 pub judge_tank_spec : {M : Type 1} → statement M
 judge_tank_spec =
@@ -39,5 +39,5 @@ judge_tank_spec =
     (λ c. search rules)
     (λ c κs. search rules)
     (λ c κs. search rules)
-    returns
-    returns-2)
+    returns-in-Broken
+    returns-in-Kept)

@@ -5,13 +5,13 @@ use native.Mathlib.Omega.{arith}
 use Rattle.examining.proofs.largest_return_ratio.Statement.{statement}
 use Rattle.examining.proofs.largest_return_ratio.Tie as tie
 
-returns : tie.Need-returns
+returns-in-Horizontal : tie.Need-returns-in-Horizontal
 unfolding largest_return_ratio
-returns c = (rw c.enum_told.given.1, omega arith)
+returns-in-Horizontal c = (rw c.in-Horizontal.is, omega arith)
 
-returns-2 : tie.Need-returns-2
+returns-in-Vertical : tie.Need-returns-in-Vertical
 unfolding largest_return_ratio
-returns-2 c = (rw c.enum-told2.given.1, omega arith)
+returns-in-Vertical c = (rw c.in-Vertical.is, omega arith)
 
 pub largest_return_ratio_spec : {M : Type 1} → statement M
-largest_return_ratio_spec = tie.close (tie.spec (λ c. search rules) (λ c. search rules) returns returns-2)
+largest_return_ratio_spec = tie.close (tie.spec (λ c. search rules) (λ c. search rules) returns-in-Horizontal returns-in-Vertical)

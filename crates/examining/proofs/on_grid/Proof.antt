@@ -9,7 +9,7 @@ unfolding on_grid
 returns c =
     let second = c.before in
     let first = second.before in
-    rw (c.within3.ensures, second.within2.ensures, first.within.ensures, first.before.largest-return-ratio.ensures.0)
+    rw (c.within-3.ensures, second.within-2.ensures, first.within.ensures, first.before.largest_return_ratio-most.ensures.0)
 
 pub on_grid_spec : {M : Type 1} → statement M
 on_grid_spec =

@@ -11,7 +11,7 @@ unfolding sheet_from total_of
 returns c =
     let volume = c.before.before.before.before in
     let mass = volume.before.before.args.reactor.mass in
-    rw (volume.reactor-volume.ensures.0 ∙ ap (reactor_volume mass) volume.before.reactor-solids.ensures.0)
+    rw (volume.reactor_volume-volume.ensures.0 ∙ ap (reactor_volume mass) volume.before.reactor_solids-solids.ensures.0)
 
 pub sheet_from_spec : {M : Type 1} → statement M
 sheet_from_spec =

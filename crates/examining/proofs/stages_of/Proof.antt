@@ -15,17 +15,17 @@ returns c =
     let terms = reacted.before in
     let start = terms.before in
     record {
-      reactor = reacted.reactor.ensures.0;
-      seasons = terms.seasons-of.ensures;
-      settling = settled.settling.ensures.0;
+      reactor = reacted.reactor-reactor.ensures.0;
+      seasons = terms.seasons_of-seasons.ensures;
+      settling = settled.settling-settling.ensures.0;
       verdict =
-          c.after.ensures
-          ∙ rw (tank.tank-verdict.ensures, fraction.fraction-verdict.ensures)
+          c.after-verdict.ensures
+          ∙ rw (tank.tank_verdict-tank.ensures, fraction.fraction_verdict-fraction.ensures)
           (sym
-          (verdict_append (fraction_rules start.args.plant start.args.concentrations reacted.reactor.result)
-          (tank_rules start.args.plant settled.settling.result)));
-      reactor_bounds = reacted.reactor.ensures.1;
-      settling_bounds = settled.settling.ensures.1;
+          (verdict_append (fraction_rules start.args.plant start.args.concentrations reacted.reactor-reactor.result)
+          (tank_rules start.args.plant settled.settling-settling.result)));
+      reactor_bounds = reacted.reactor-reactor.ensures.1;
+      settling_bounds = settled.settling-settling.ensures.1;
     }
 
 pub stages_of_spec : {M : Type 1} → statement M
