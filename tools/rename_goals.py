@@ -126,7 +126,11 @@ def turn(path, names, label):
             return re.sub(r"(?:\.before)+\.(?=\w)", ".", whole) if FLAT else whole
 
         decl = re.sub(r"(?<![\w.'-])[a-z]\w*(?:\.[\w'+-]+)+", path, decl)
-        return re.sub(r"not-(?:true|false) _ (\(?)(\w+(?:\.[\w+-]+)*\.if-not-)", r"\1\2", decl)
+        def plain(m):
+            tested = m.group(2).split("if-not-")[1].split(".")[0]
+            return m.group(1) + m.group(2) if any(norm(tested).startswith(k) for k in callee) else m.group(0)
+
+        return re.sub(r"not-(?:true|false) (?:_|[\w.+-]+) (\(?)(\w+(?:\.[\w+-]+)*\.if-not-[\w.+-]+)", plain, decl)
 
     blocks = re.split(r"(?m)(?=^\S)", text)
     text = "".join(b if b.startswith(("use ", "--")) else piece(b) for b in blocks)

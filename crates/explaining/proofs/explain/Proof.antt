@@ -6,19 +6,19 @@ use Rattle.rules.proofs.AcceptedData.{accepted_ranges}
 use Rattle.explaining.proofs.explain.Statement.{statement}
 use Rattle.explaining.proofs.explain.Tie as tie
 
-explain-candidate-requires : tie.Need-explain-candidate-requires
-explain-candidate-requires c κs =
-    let start = c.before.before.before.before in
-    accepted_ranges start.args.plant start.args.readings c.before.concentrations.given.0.0
-    (sym c.before.before.before.accept.ensures ∙ c.before.concentrations.given.1)
+explain_candidate-requires : tie.Need-explain_candidate-requires
+explain_candidate-requires c κs =
+    let start = c.before in
+    accepted_ranges start.args.plant start.args.readings c.in-Accepted.concentrations
+    (sym c.accept.ensures ∙ c.in-Accepted.is)
 
-returns : tie.Need-returns
+returns-in-Refused : tie.Need-returns-in-Refused
 unfolding explain explain_accepted
-returns c = rw (sym c.before.before.before.accept.ensures ∙ c.before.refusal.given.1)
+returns-in-Refused c = rw (sym c.accept.ensures ∙ c.in-Refused.is)
 
-returns-2 : tie.Need-returns-2
+returns-in-Accepted : tie.Need-returns-in-Accepted
 unfolding explain explain_accepted
-returns-2 c = rw (sym c.before.before.before.before.accept.ensures ∙ c.before.before.concentrations.given.1) c.explain-candidate.ensures
+returns-in-Accepted c = rw (sym c.accept.ensures ∙ c.in-Accepted.is) c.explain_candidate.ensures
 
 pub explain_spec : {M : Type 1} → statement M
 explain_spec =
@@ -27,6 +27,6 @@ explain_spec =
     (λ c κs. search rules)
     (λ c. search rules)
     (λ c. search rules)
-    explain-candidate-requires
-    returns
-    returns-2)
+    explain_candidate-requires
+    returns-in-Refused
+    returns-in-Accepted)

@@ -11,16 +11,16 @@ use Rattle.explaining.proofs.explain_candidate.Tie as tie
 explained-requires : tie.Need-explained-requires
 explained-requires c κs =
     let start = c.before.before in
-    let passed = subst T (sym (sym c.before.on-grid.ensures ∙ c.if1.true)) tt in
+    let passed = subst T (sym (sym c.before.on_grid.ensures ∙ c.if-on_grid.true)) tt in
     (start.requires.0, start.requires.1, on_grid_lem start.args.plant.tank start.args.candidate passed)
 
-returns : tie.Need-returns
+returns-then-on_grid : tie.Need-returns-then-on_grid
 unfolding explain_candidate
-returns c = rw (sym c.before.before.on-grid.ensures ∙ c.before.if1.true) (ap Explanation.Figures c.explained.ensures)
+returns-then-on_grid c = rw (sym c.before.before.on_grid.ensures ∙ c.before.if-on_grid.true) (ap Explanation.Figures c.explained.ensures)
 
-returns-2 : tie.Need-returns-2
+returns-else-on_grid : tie.Need-returns-else-on_grid
 unfolding explain_candidate
-returns-2 c = rw (sym c.before.on-grid.ensures ∙ c.if1.false)
+returns-else-on_grid c = rw (sym c.before.on_grid.ensures ∙ c.if-on_grid.false)
 
 pub explain_candidate_spec : {M : Type 1} → statement M
-explain_candidate_spec = tie.close (tie.spec (λ c κs. search rules) explained-requires returns returns-2)
+explain_candidate_spec = tie.close (tie.spec (λ c κs. search rules) explained-requires returns-then-on_grid returns-else-on_grid)

@@ -70,30 +70,30 @@ module _ (p : Plant) (x : Concentrations) (r : Reactor) (s : Seasons) (e : s ≡
   unfolding seasons_of
   fourth_term = ap (λ (t : Seasons). entry_explained t.count 3 p.way p.process x r t.fourth) e ∙ explained_at_lem p x r 3 p.consent.fourth
 
-explained-in-requires : tie.Need-explained-in-requires
-explained-in-requires c κs =
+explained_in-first-requires : tie.Need-explained_in-first-requires
+explained_in-first-requires c κs =
     let staged = c.before.before.before.before.before.before.before.before in
-    (staged.before.requires.1, staged.stages-of.ensures.reactor_bounds, staged.stages-of.ensures.seasons.bounds.first)
+    (staged.before.requires.1, staged.stages_of-stages.ensures.reactor_bounds, staged.stages_of-stages.ensures.seasons.bounds.first)
 
-explained-in-requires-2 : tie.Need-explained-in-requires-2
-explained-in-requires-2 c κs =
+explained_in-second-requires : tie.Need-explained_in-second-requires
+explained_in-second-requires c κs =
     let staged = c.before.before.before.before.before.before.before.before.before in
-    (staged.before.requires.1, staged.stages-of.ensures.reactor_bounds, staged.stages-of.ensures.seasons.bounds.second)
+    (staged.before.requires.1, staged.stages_of-stages.ensures.reactor_bounds, staged.stages_of-stages.ensures.seasons.bounds.second)
 
-explained-in-requires-3 : tie.Need-explained-in-requires-3
-explained-in-requires-3 c κs =
+explained_in-third-requires : tie.Need-explained_in-third-requires
+explained_in-third-requires c κs =
     let staged = c.before.before.before.before.before.before.before.before.before.before in
-    (staged.before.requires.1, staged.stages-of.ensures.reactor_bounds, staged.stages-of.ensures.seasons.bounds.third)
+    (staged.before.requires.1, staged.stages_of-stages.ensures.reactor_bounds, staged.stages_of-stages.ensures.seasons.bounds.third)
 
-explained-in-requires-4 : tie.Need-explained-in-requires-4
-explained-in-requires-4 c κs =
+explained_in-fourth-requires : tie.Need-explained_in-fourth-requires
+explained_in-fourth-requires c κs =
     let staged = c.before.before.before.before.before.before.before.before.before.before.before in
-    (staged.before.requires.1, staged.stages-of.ensures.reactor_bounds, staged.stages-of.ensures.seasons.bounds.fourth)
+    (staged.before.requires.1, staged.stages_of-stages.ensures.reactor_bounds, staged.stages_of-stages.ensures.seasons.bounds.fourth)
 
-add-t22 : tie.Need-overflow-add-t22
-add-t22 c =
+overflow_add-result : tie.Need-overflow_add-result
+overflow_add-result c =
     let staged = c.before.before.before.before.before.before.before.before.before.before.before.before in
-    omega (arith, staged.stages-of.ensures.reactor_bounds)
+    omega (arith, staged.stages_of-stages.ensures.reactor_bounds)
 
 returns : tie.Need-returns
 unfolding removed_by_bod removable
@@ -105,27 +105,27 @@ returns c =
     let start = staged.before in
     let p = start.args.plant in
     let x = start.args.concentrations in
-    let s = staged.stages-of.result in
-    let known = staged.stages-of.ensures in
-    handed_on p x start.args.candidate s.reactor s.settling s.verdict first.explained-in.result second.explained-in2.result
-    third.explained-in3.result
-    c.explained-in4.result
+    let s = staged.stages_of-stages.result in
+    let known = staged.stages_of-stages.ensures in
+    handed_on p x start.args.candidate s.reactor s.settling s.verdict first.explained_in-first.result second.explained_in-second.result
+    third.explained_in-third.result
+    c.explained_in-fourth.result
     known.reactor
     known.settling
     known.verdict
-    (first.explained-in.ensures ∙ first_term p x s.reactor s.seasons known.seasons.value)
-    (second.explained-in2.ensures ∙ second_term p x s.reactor s.seasons known.seasons.value)
-    (third.explained-in3.ensures ∙ third_term p x s.reactor s.seasons known.seasons.value)
-    (c.explained-in4.ensures ∙ fourth_term p x s.reactor s.seasons known.seasons.value)
+    (first.explained_in-first.ensures ∙ first_term p x s.reactor s.seasons known.seasons.value)
+    (second.explained_in-second.ensures ∙ second_term p x s.reactor s.seasons known.seasons.value)
+    (third.explained_in-third.ensures ∙ third_term p x s.reactor s.seasons known.seasons.value)
+    (c.explained_in-fourth.ensures ∙ fourth_term p x s.reactor s.seasons known.seasons.value)
 
 pub explained_spec : {M : Type 1} → statement M
 explained_spec =
     tie.close
     (tie.spec
     (λ c κs. search rules)
-    explained-in-requires
-    explained-in-requires-2
-    explained-in-requires-3
-    explained-in-requires-4
-    add-t22
+    explained_in-first-requires
+    explained_in-second-requires
+    explained_in-third-requires
+    explained_in-fourth-requires
+    overflow_add-result
     returns)
