@@ -3,8 +3,8 @@ use mathlib.Core.Path.{◌≡◌, refl}
 use lib.Dec.{le→leb}
 use Rattle.rules.specs.Examining.{examine}
 use Rattle.rules.specs.Answers.{empty_sheet}
-use Rattle.rules.specs.Choosing.{Chosen}
-use Rattle.rules.specs.Cases.{variant, case_a, readings_a, candidate, f32}
+use Rattle.rules.specs.Choosing.{candidate_total, Chosen}
+use Rattle.rules.specs.Cases.{variant, case_a, readings_a, concentrations_a, candidate, f32}
 use Rattle.rules.specs.WithoutWay.{with_way}
 use Rattle.rules.specs.declared.Plant.{Plant}
 use Rattle.rules.specs.declared.Way.{Way}
@@ -87,10 +87,15 @@ pub ties_to_larger_fraction : Chosen small_plant readings_a (examine small_plant
 unfolding steps small_plant
 ties_to_larger_fraction h = le→leb 301 300 ((h.rivals (candidate 300 30 23) tt tt).fraction refl)
 
+-- the two totals below, computed apart
+same_total : candidate_total small_plant concentrations_a (candidate 300 32 20) ≡ candidate_total small_plant concentrations_a (candidate 300 30 23)
+unfolding steps small_plant
+same_total = refl
+
 -- Equal totals to the shorter thickening time before the smaller return ratio: 300, 30, 23 against 300, 32, 20.
 pub ties_by_time_first : Chosen small_plant readings_a (examine small_plant readings_a (candidate 300 32 20)) → ⊥
 unfolding steps small_plant
-ties_by_time_first h = le→leb 32 30 ((h.rivals (candidate 300 30 23) tt tt).ratio refl refl)
+ties_by_time_first h = le→leb 32 30 ((h.rivals (candidate 300 30 23) tt tt).ratio same_total refl)
 
 -- a flow so small that the sludge mass is the same for many thickening times
 unfoldable pub tiny_plant : Plant

@@ -50,13 +50,13 @@ decreases-time index bottoms₀ h₀ bottoms h = most_time + 1 - h
 time-holds : tie.Need-time-init invariant-time decreases-time
 time-holds c = (omega arith, record { size = length-replicate {A = ℕ} 6 0; holds = λ k g l. absurd (omega arith) })
 
-array-write-bottoms : tie.Need-array-write-bottoms invariant-time decreases-time
-array-write-bottoms c = omega arith
+bounds-bottoms-h : tie.Need-bounds-bottoms-h invariant-time decreases-time
+bounds-bottoms-h c = omega arith
 
 time-again : tie.Need-time-preserved invariant-time decreases-time
 time-again c =
     let head = c.before.before in
-    (omega arith, entered head.before.args.index head.time.h c.bottom-sludge.result head.time.bottoms (omega arith) c.bottom-sludge.ensures.0 head.time.invariant.1)
+    (omega arith, entered head.before.args.index head.time.h c.bottom_sludge.result head.time.bottoms (omega arith) c.bottom_sludge.ensures.0 head.time.invariant.1)
 
 returns : tie.Need-returns invariant-time decreases-time
 returns c = let passed = c.before.time.invariant.1 in record { size = passed.size; holds = λ h g. passed.holds h g (omega arith) }
@@ -72,7 +72,7 @@ bottoms_spec =
     (λ c. search rules)
     (λ c. search rules)
     (λ c. search rules)
-    array-write-bottoms
+    bounds-bottoms-h
     (λ c. search rules)
     (λ c. search rules)
     time-again

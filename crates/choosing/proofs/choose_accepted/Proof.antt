@@ -18,67 +18,67 @@ use Rattle.choosing.proofs.Turns.{limits}
 use Rattle.choosing.proofs.choose_accepted.Statement.{statement}
 use Rattle.choosing.proofs.choose_accepted.Tie as tie
 
-tanks-requires : tie.Need-tanks-requires
-tanks-requires c κs = let start = c.before.before in (start.requires.0, omega (arith, c.largest-return-ratio.ensures.1), c.before.bottoms.ensures)
+tanks-table-requires : tie.Need-tanks-table-requires
+tanks-table-requires c κs = let start = c.before.before in (start.requires.0, omega (arith, c.largest_return_ratio-last.ensures.1), c.before.bottoms-bottoms.ensures)
 
-sweep-requires : tie.Need-sweep-requires
-sweep-requires c κs =
+sweep-best-requires : tie.Need-sweep-best-requires
+sweep-best-requires c κs =
     let seasons = c.before in
     let filled = seasons.before in
     let start = filled.before.before.before in
-    (start.requires.0, start.requires.1, seasons.seasons-of.ensures, rw (sym filled.before.largest-return-ratio.ensures.0) filled.tanks.ensures)
+    (start.requires.0, start.requires.1, seasons.seasons_of-seasons.ensures, rw (sym filled.before.largest_return_ratio-last.ensures.0) filled.tanks-table.ensures)
 
-returns : tie.Need-returns
-returns c =
+returns-then-best : tie.Need-returns-then-best
+returns-then-best c =
     let start = c.before.before.before.before.before.before.before in
     let plant = start.args.plant in
     let concentrations = start.args.concentrations in (
       refl,
       no_design plant concentrations (limits plant concentrations start.requires.0 start.requires.1) (grid plant) (λ y g. g)
-          (subst (LeastKey plant concentrations (grid plant)) c.if1.true c.before.sweep.ensures),
+          (subst (LeastKey plant concentrations (grid plant)) c.if-best.true c.before.sweep-best.ensures),
     )
 
 -- the least key's candidate is the best of the grid
 best :
-    (c : tie.Else1)
+    (c : tie.Else-best)
     → BestAmong c.before.before.before.before.before.before.before.args.plant c.before.before.before.before.before.before.before.args.concentrations
     (grid c.before.before.before.before.before.before.before.args.plant)
-    (Best.At (key_candidate c.before.sweep.result))
+    (Best.At (key_candidate c.before.sweep-best.result))
 best c =
     let start = c.before.before.before.before.before.before.before in
     let plant = start.args.plant in
     let concentrations = start.args.concentrations in
-    design plant concentrations (limits plant concentrations start.requires.0 start.requires.1) (grid plant) (λ y g. g) c.before.sweep.result c.if1.false c.before.sweep.ensures
+    design plant concentrations (limits plant concentrations start.requires.0 start.requires.1) (grid plant) (λ y g. g) c.before.sweep-best.result c.if-best.false c.before.sweep-best.ensures
 
-inside : (c : tie.After-key-candidate) → OnGrid c.key-candidate.result
+inside : (c : tie.After-key_candidate-candidate) → OnGrid c.key_candidate-candidate.result
 inside c =
     let start = c.before.before.before.before.before.before.before.before in
-    on_grid_lem start.args.plant.tank c.key-candidate.result
-    (subst (λ (y : Candidate). grid start.args.plant y) (sym c.key-candidate.ensures) (best c.before).0)
+    on_grid_lem start.args.plant.tank c.key_candidate-candidate.result
+    (subst (λ (y : Candidate). grid start.args.plant y) (sym c.key_candidate-candidate.ensures) (best c.before).0)
 
-sub-bottom : tie.Need-overflow-sub-bottom
-sub-bottom c = omega (arith, (inside c.before).time)
+overflow_sub-bottom : tie.Need-overflow_sub-bottom
+overflow_sub-bottom c = omega (arith, (inside c.before).time)
 
-array-read-bottom : tie.Need-array-read-bottom
-array-read-bottom c = omega (arith, (inside c.before).time)
+bounds-bottoms-candidate : tie.Need-bounds-bottoms-candidate
+bounds-bottoms-candidate c = omega (arith, (inside c.before).time)
 
-reactor-requires : tie.Need-reactor-requires
-reactor-requires c κs =
+reactor-reactor-requires : tie.Need-reactor-reactor-requires
+reactor-reactor-requires c κs =
     let seasons = c.before.before.before.before.before in
     let start = seasons.before.before.before.before in
-    (start.requires.0, start.requires.1, (inside c.before).fraction, seasons.seasons-of.ensures)
+    (start.requires.0, start.requires.1, (inside c.before).fraction, seasons.seasons_of-seasons.ensures)
 
-judge-tank-requires : tie.Need-judge-tank-requires
-judge-tank-requires c κs =
+judge_tank-requires : tie.Need-judge_tank-requires
+judge_tank-requires c κs =
     let named = c.before.before in
     let settled = named.before.before.before.before.before.before.before in
     let start = settled.before in (
-      (start.requires.0, start.requires.1, inside named, record { value = c.reactor.ensures.0; bounds = c.reactor.ensures.1 }),
-      settled.bottoms.ensures.holds named.key-candidate.result.thickening (inside named).time,
+      (start.requires.0, start.requires.1, inside named, record { value = c.reactor-reactor.ensures.0; bounds = c.reactor-reactor.ensures.1 }),
+      settled.bottoms-bottoms.ensures.holds named.key_candidate-candidate.result.thickening (inside named).time,
     )
 
-returns-2 : tie.Need-returns-2
-returns-2 c =
+returns : tie.Need-returns
+returns c =
     let named = c.before.before.before in
     let key = named.before.before in
     let start = key.before.before.before.before.before.before in
@@ -87,9 +87,9 @@ returns-2 c =
     let found = best named.before in
     subst (ChosenAmong plant concentrations (grid plant))
     (sym
-    (c.judge-tank.ensures
-    ∙ (ap (judge_tank plant concentrations) named.key-candidate.ensures ∙ permitted_by_tank plant concentrations (key_candidate key.sweep.result) found.1)))
-    (best_designed plant concentrations (grid plant) (key_candidate key.sweep.result) found)
+    (c.judge_tank.ensures
+    ∙ (ap (judge_tank plant concentrations) named.key_candidate-candidate.ensures ∙ permitted_by_tank plant concentrations (key_candidate key.sweep-best.result) found.1)))
+    (best_designed plant concentrations (grid plant) (key_candidate key.sweep-best.result) found)
 
 pub choose_accepted_spec : {M : Type 1} → statement M
 choose_accepted_spec =
@@ -97,16 +97,16 @@ choose_accepted_spec =
     (tie.spec
     (λ c κs. search rules)
     (λ c κs. search rules)
-    tanks-requires
+    tanks-table-requires
     (λ c κs. search rules)
     (λ c. search rules)
-    sweep-requires
-    returns
+    sweep-best-requires
+    returns-then-best
     (λ c κs. search rules)
-    sub-bottom
+    overflow_sub-bottom
     (λ c. search rules)
     (λ c. search rules)
-    array-read-bottom
-    reactor-requires
-    judge-tank-requires
-    returns-2)
+    bounds-bottoms-candidate
+    reactor-reactor-requires
+    judge_tank-requires
+    returns)

@@ -4,30 +4,30 @@ use Rattle.choosing.proofs.Entries.{no_tank, best_stands, key_wins}
 use Rattle.choosing.proofs.improved.Statement.{statement}
 use Rattle.choosing.proofs.improved.Tie as tie
 
-returns : tie.Need-returns
-returns c = no_tank c.before.before.args.best c.before.before.args.mass c.before.before.args.tank c.before.before.args.f c.before.before.args.r c.before.before.args.h c.if1.true
+returns-then-tank-eq0 : tie.Need-returns-then-tank-eq0
+returns-then-tank-eq0 c = no_tank c.before.before.args.best c.before.before.args.mass c.before.before.args.tank c.before.before.args.f c.before.before.args.r c.before.before.args.h c.if-tank-eq0.true
 
-returns-2 : tie.Need-returns-2
-returns-2 c =
+returns-then-best-key : tie.Need-returns-then-best-key
+returns-then-best-key c =
     best_stands c.before.before.before.before.before.args.best c.before.before.before.before.before.args.mass c.before.before.before.before.before.args.tank c.before.before.before.before.before.args.f c.before.before.before.before.before.args.r c.before.before.before.before.before.args.h
-    c.before.before.before.if1.false
-    c.before.before.reactor-volume.result
-    c.before.before.reactor-volume.ensures.0
-    c.if2.true
+    c.before.before.before.if-tank-eq0.false
+    c.before.before.reactor_volume.result
+    c.before.before.reactor_volume.ensures.0
+    c.if-best-key.true
 
-returns-3 : tie.Need-returns-3
-returns-3 c =
+returns-else-best-key : tie.Need-returns-else-best-key
+returns-else-best-key c =
     key_wins c.before.before.before.before.before.args.best c.before.before.before.before.before.args.mass c.before.before.before.before.before.args.tank c.before.before.before.before.before.args.f c.before.before.before.before.before.args.r c.before.before.before.before.before.args.h
-    c.before.before.before.if1.false
-    c.before.before.reactor-volume.result
-    c.before.before.reactor-volume.ensures.0
-    c.if2.false
+    c.before.before.before.if-tank-eq0.false
+    c.before.before.reactor_volume.result
+    c.before.before.reactor_volume.ensures.0
+    c.if-best-key.false
 
 pub improved_spec : {M : Type 1} → statement M
 improved_spec =
     tie.close
     (tie.spec
-    returns
+    returns-then-tank-eq0
     (λ c κs. search rules)
     (λ c. search rules)
     (λ c. search rules)
@@ -36,5 +36,5 @@ improved_spec =
     (λ c. search rules)
     (λ c. search rules)
     (λ c. search rules)
-    returns-2
-    returns-3)
+    returns-then-best-key
+    returns-else-best-key)

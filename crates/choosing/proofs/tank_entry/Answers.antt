@@ -7,17 +7,13 @@ use Rattle.choosing.proofs.tank_entry.Goals as goal
 
 pub returns-in-Kept : goal.returns-in-Kept
 returns-in-Kept c =
-    let judged = c in
-    let start = judged.before in
     rw c.reactor_solids.ensures.0
-    (entry_by start.args.plant start.args.return_ratio start.args.thickening judged.settling-settling.result Verdict.Kept
-    judged.settling-settling.ensures.0
-    (sym c.in-Kept.is ∙ judged.tank_verdict.ensures))
+    (entry_by c.args.plant c.args.return_ratio c.args.thickening c.settling-settling.result Verdict.Kept
+    c.settling-settling.ensures.0
+    (sym c.in-Kept.is ∙ c.tank_verdict.ensures))
 
 pub returns-in-Broken : goal.returns-in-Broken
 returns-in-Broken c =
-    let judged = c in
-    let start = judged.before in
-    entry_by start.args.plant start.args.return_ratio start.args.thickening judged.settling-settling.result (Verdict.Broken c.in-Broken.enum_told)
-    judged.settling-settling.ensures.0
-    (sym c.in-Broken.is ∙ judged.tank_verdict.ensures)
+    entry_by c.args.plant c.args.return_ratio c.args.thickening c.settling-settling.result _
+    c.settling-settling.ensures.0
+    (sym c.in-Broken.is ∙ c.tank_verdict.ensures)

@@ -13,6 +13,7 @@ use Rattle.choosing.specs.Keys.{packed_tank}
 use Rattle.choosing.proofs.Turns.{tank_most}
 use Rattle.choosing.proofs.tanks.Statement.{statement}
 use Rattle.choosing.proofs.tanks.Tie as tie
+use Rattle.choosing.proofs.tanks.Lts.{else-ratio-test, then-ratio-test+else-r-last}
 
 abbrev invariant-ratio : tie.invariant-ratio
 invariant-ratio plant last bottoms table₀ h bottom r₀ table r = Between least_ratio (last + 1) r × FilledTo plant last (turn r h) table
@@ -29,8 +30,8 @@ decreases-time plant last bottoms table₀ h₀ table h = most_time + 1 - h
 time-holds : tie.Need-time-init invariant-ratio decreases-ratio invariant-time decreases-time
 time-holds c = (omega arith, empty c.args.plant c.args.last c.requires.1 _ refl)
 
-tank-entry-requires : tie.Need-tank-entry-requires invariant-ratio decreases-ratio invariant-time decreases-time
-tank-entry-requires c κs =
+tank_entry-requires : tie.Need-tank_entry-requires invariant-ratio decreases-ratio invariant-time decreases-time
+tank_entry-requires c κs =
     let time = c.before.before.before in
     ((time.before.requires.0, omega arith, omega arith), time.before.requires.2.holds time.time.h (omega arith))
 
@@ -38,26 +39,26 @@ packed-requires : tie.Need-packed-requires invariant-ratio decreases-ratio invar
 packed-requires c κs =
     let head = c.before.before in
     let start = head.before.before.before in
-    rw c.tank-entry.ensures (tank_most start.args.plant start.requires.0 head.ratio.r head.before.before.time.h (omega arith) (omega arith))
+    rw c.tank_entry.ensures (tank_most start.args.plant start.requires.0 head.ratio.r head.before.before.time.h (omega arith) (omega arith))
 
-array-write-table : tie.Need-array-write-table invariant-ratio decreases-ratio invariant-time decreases-time
-array-write-table c = c.tank-index.ensures.1
+bounds-table-tank_index : tie.Need-bounds-table-tank_index invariant-ratio decreases-ratio invariant-time decreases-time
+bounds-table-tank_index c = c.tank_index.ensures.1
 
 -- the present tank is in the table
 stored :
-    (c : tie.After-tank-index invariant-ratio decreases-ratio invariant-time decreases-time) →
+    (c : tie.After-tank_index invariant-ratio decreases-ratio invariant-time decreases-time) →
     FilledTo c.before.before.before.before.before.before.before.args.plant
     c.before.before.before.before.before.before.before.args.last
     (turn (c.before.before.before.before.ratio.r + 1) c.before.before.before.before.before.before.time.h)
-    (set c.before.before.before.before.ratio.table c.tank-index.result c.before.packed.result)
+    (set c.before.before.before.before.ratio.table c.tank_index.result c.before.packed.result)
 stored c =
     let packed = c.before in
     let head = packed.before.before.before in
     let start = head.before.before.before in
-    rw c.tank-index.ensures.0
+    rw c.tank_index.ensures.0
     (entered start.args.plant start.args.last start.requires.1 head.ratio.r head.before.before.time.h
     head.ratio.table packed.packed.result (omega arith) (omega arith)
-    (packed.packed.ensures ∙ ap packed_tank packed.before.tank-entry.ensures)
+    (packed.packed.ensures ∙ ap packed_tank packed.before.tank_entry.ensures)
     head.ratio.invariant.1)
 
 ratio-again : tie.Need-ratio-preserved invariant-ratio decreases-ratio invariant-time decreases-time
@@ -72,16 +73,16 @@ time-again c =
     let last = start.args.last in (
       omega arith,
       next_time plant last start.requires.1 h c.ratio-test.table
-          (⊎_elim
-          (λ w.
-          let e : head.ratio.r ≡ last + 1 = omega (arith, w.0) in
-          rw w.1 (subst (λ (n : ℕ). FilledTo plant last (turn n h) head.ratio.table) e head.ratio.invariant.1))
-          (λ w.
-          let e : head.ratio.r ≡ last = omega (arith, w.0, w.4) in
-          rw w.5
-          (subst (λ (n : ℕ). FilledTo plant last (turn (n + 1) h) (set head.ratio.table w.3.result w.2.result)) e
-          (stored (record { before = record { before = record { before = record { before = head; ratio-test = w.0 }; tank-entry = w.1 }; packed = w.2 }; tank-index = w.3 }))))
-          c.ratio-test.branch),
+          (elim c.ratio-test.branch [
+            | else-ratio-test w ↦
+                let e : head.ratio.r ≡ last + 1 = omega (arith, w.ratio-test) in
+                rw w.table-is (subst (λ (n : ℕ). FilledTo plant last (turn n h) head.ratio.table) e head.ratio.invariant.1)
+            | then-ratio-test+else-r-last w ↦
+                let e : head.ratio.r ≡ last = omega (arith, w.ratio-test, w.if-r-last) in
+                rw w.table-is
+                (subst (λ (n : ℕ). FilledTo plant last (turn (n + 1) h) (set head.ratio.table w.tank_index.result w.packed.result)) e
+                (stored (record { before = record { before = record { before = record { before = head; ratio-test = w.ratio-test }; tank_entry = w.tank_entry }; packed = w.packed }; tank_index = w.tank_index })))
+          ]),
     )
 
 returns : tie.Need-returns invariant-ratio decreases-ratio invariant-time decreases-time
@@ -105,11 +106,11 @@ tanks_spec =
     (λ c. search rules)
     (λ c. omega arith)
     (λ c. search rules)
-    tank-entry-requires
+    tank_entry-requires
     packed-requires
     (λ c κs. search rules)
     (λ c. search rules)
-    array-write-table
+    bounds-table-tank_index
     (λ c. search rules)
     (λ c. search rules)
     ratio-again
