@@ -35,25 +35,25 @@ accepted :
 unfolding census census_accepted
 accepted p r x l e f = ap {B = Census} (λ (m : List ℕ). record { number = 0; counts = m }) f ∙ ap (census_accepted p) (sym e)
 
-grid-counts-requires : tie.Need-grid-counts-requires
-grid-counts-requires c κs =
-    let start = c.before.before.before.before in
-    accepted_ranges start.args.plant start.args.readings c.before.concentrations.given.0.0
-    (sym c.before.before.before.accept.ensures ∙ c.before.concentrations.given.1)
+grid_counts-requires : tie.Need-grid_counts-requires
+grid_counts-requires c κs =
+    let start = c.before in
+    accepted_ranges start.args.plant start.args.readings c.in-Accepted.concentrations
+    (sym c.accept.ensures ∙ c.in-Accepted.is)
 
-returns : tie.Need-returns
-returns c =
-    let start = c.before.before.before.before.before in
-    refused start.args.plant start.args.readings c.before.before.refusal.given.0.0 c.refusal-number.result
-    (sym c.before.before.before.before.accept.ensures ∙ c.before.before.refusal.given.1)
-    c.refusal-number.ensures
+returns-in-Refused : tie.Need-returns-in-Refused
+returns-in-Refused c =
+    let start = c.before in
+    refused start.args.plant start.args.readings c.in-Refused.refusal c.refusal_number.result
+    (sym c.accept.ensures ∙ c.in-Refused.is)
+    c.refusal_number.ensures
 
-returns-2 : tie.Need-returns-2
-returns-2 c =
-    let start = c.before.before.before.before.before in
-    accepted start.args.plant start.args.readings c.before.before.concentrations.given.0.0 c.grid-counts.result
-    (sym c.before.before.before.before.accept.ensures ∙ c.before.before.concentrations.given.1)
-    c.grid-counts.ensures
+returns-in-Accepted : tie.Need-returns-in-Accepted
+returns-in-Accepted c =
+    let start = c.before in
+    accepted start.args.plant start.args.readings c.in-Accepted.concentrations c.grid_counts.result
+    (sym c.accept.ensures ∙ c.in-Accepted.is)
+    c.grid_counts.ensures
 
 pub census_spec : {M : Type 1} → statement M
 census_spec =
@@ -63,6 +63,6 @@ census_spec =
     (λ c. search rules)
     (λ c κs. search rules)
     (λ c. search rules)
-    grid-counts-requires
-    returns
-    returns-2)
+    grid_counts-requires
+    returns-in-Refused
+    returns-in-Accepted)

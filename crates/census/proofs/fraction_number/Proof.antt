@@ -12,10 +12,10 @@ use Rattle.census.proofs.fraction_number.Tie as tie
 returns : tie.Need-returns
 unfolding fraction_number
 returns c = let start = c.before.before.before in (
-  c.verdict-number.ensures.0
-      ∙ (ap verdict_number c.before.fraction-verdict.ensures
-      ∙ ap (λ (r : Reactor). verdict_number (verdict (fraction_rules start.args.plant start.args.concentrations r))) c.before.before.reactor.ensures.0),
-  c.verdict-number.ensures.1,
+  c.verdict_number.ensures.0
+      ∙ (ap verdict_number c.before.fraction_verdict.ensures
+      ∙ ap (λ (r : Reactor). verdict_number (verdict (fraction_rules start.args.plant start.args.concentrations r))) c.before.before.reactor-reactor.ensures.0),
+  c.verdict_number.ensures.1,
 )
 
 pub fraction_number_spec : {M : Type 1} → statement M

@@ -21,33 +21,33 @@ decreases-fraction plant concentrations seasons tally₀ f₀ tally f = most_fra
 fraction-holds : tie.Need-fraction-init invariant-fraction decreases-fraction
 fraction-holds c = (omega arith, no_fraction c.before.args.plant c.before.args.concentrations)
 
-fraction-number-requires : tie.Need-fraction-number-requires invariant-fraction decreases-fraction
-fraction-number-requires c κs =
+fraction_number-number-requires : tie.Need-fraction_number-number-requires invariant-fraction decreases-fraction
+fraction_number-number-requires c κs =
     let termed = c.before.before in
-    (termed.before.requires.0, termed.before.requires.1, omega arith, termed.seasons-of.ensures)
+    (termed.before.requires.0, termed.before.requires.1, omega arith, termed.seasons_of-seasons.ensures)
 
-array-read-tally : tie.Need-array-read-tally invariant-fraction decreases-fraction
-array-read-tally c = c.fraction-number.ensures.1
+bounds-tally-number : tie.Need-bounds-tally-number invariant-fraction decreases-fraction
+bounds-tally-number c = c.fraction_number-number.ensures.1
 
-add-tally : tie.Need-overflow-add-tally invariant-fraction decreases-fraction
-add-tally c =
+overflow_add-tally : tie.Need-overflow_add-tally invariant-fraction decreases-fraction
+overflow_add-tally c =
     let head = c.before.before in
     let start = head.before.before in
     let most = fractions_most start.args.plant start.args.concentrations (head.fraction.f - least_fraction) head.fraction.tally head.fraction.invariant.1 in
-    record { fits = omega (arith, most.most c.fraction-number.result c.fraction-number.ensures.1) }
+    record { fits = omega (arith, most.most c.fraction_number-number.result c.fraction_number-number.ensures.1) }
 
-array-write-tally : tie.Need-array-write-tally invariant-fraction decreases-fraction
-array-write-tally c = c.fraction-number.ensures.1
+bounds-tally-number-in-fraction : tie.Need-bounds-tally-number-in-fraction invariant-fraction decreases-fraction
+bounds-tally-number-in-fraction c = c.fraction_number-number.ensures.1
 
 fraction-again : tie.Need-fraction-preserved invariant-fraction decreases-fraction
 fraction-again c =
     let head = c.before.before in
     let start = head.before.before in (
       omega arith,
-      fraction_tallied start.args.plant start.args.concentrations head.fraction.f c.fraction-number.result head.fraction.tally
+      fraction_tallied start.args.plant start.args.concentrations head.fraction.f c.fraction_number-number.result head.fraction.tally
           head.fraction.invariant.0.least
-          c.fraction-number.ensures.0
-          c.fraction-number.ensures.1
+          c.fraction_number-number.ensures.0
+          c.fraction_number-number.ensures.1
           head.fraction.invariant.1,
     )
 
@@ -65,12 +65,12 @@ fraction_tally_spec =
     decreases-fraction
     (λ c κs. search rules)
     fraction-holds
-    fraction-number-requires
+    fraction_number-number-requires
     (λ c. search rules)
-    array-read-tally
-    add-tally
+    bounds-tally-number
+    overflow_add-tally
     (λ c. search rules)
-    array-write-tally
+    bounds-tally-number-in-fraction
     (λ c. search rules)
     (λ c. search rules)
     fraction-again

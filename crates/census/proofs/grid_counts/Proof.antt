@@ -14,14 +14,14 @@ use Rattle.census.proofs.Products.{pairs_census}
 use Rattle.census.proofs.grid_counts.Statement.{statement}
 use Rattle.census.proofs.grid_counts.Tie as tie
 
-pair-counts-requires : tie.Need-pair-counts-requires
-pair-counts-requires c κs =
+pair_counts-requires : tie.Need-pair_counts-requires
+pair_counts-requires c κs =
     let fraction = c.before in
     let last = fraction.before in
     let start = last.before in (
-      fractions_most start.args.plant start.args.concentrations _ fraction.fraction-tally.result fraction.fraction-tally.ensures,
-      tanks_most start.args.plant _ _ c.tank-tally.result (omega (arith, last.largest-return-ratio.ensures)) (omega arith) c.tank-tally.ensures,
-      omega (arith, last.largest-return-ratio.ensures),
+      fractions_most start.args.plant start.args.concentrations _ fraction.fraction_tally-fraction.result fraction.fraction_tally-fraction.ensures,
+      tanks_most start.args.plant _ _ c.tank_tally-tank.result (omega (arith, last.largest_return_ratio-end.ensures)) (omega arith) c.tank_tally-tank.ensures,
+      omega (arith, last.largest_return_ratio-end.ensures),
     )
 
 returns : tie.Need-returns
@@ -31,12 +31,12 @@ returns c =
     let last = fraction.before in
     let start = last.before in
     let plant = start.args.plant in
-    let e : last.largest-return-ratio.result ≡ largest_return_ratio plant.tank = last.largest-return-ratio.ensures.0 in
-    c.pair-counts.ensures
-    ∙ (ap (λ (n : ℕ). values_from 0 answer_numbers (pairs fraction.fraction-tally.result tank.tank-tally.result ((n + 1 - least_ratio) * times))) e
-    ∙ pairs_census plant start.args.concentrations fraction.fraction-tally.result tank.tank-tally.result
-    fraction.fraction-tally.ensures
-    (subst (λ (n : ℕ). Tally (tank_count plant (n + 1 - least_ratio) times) tank.tank-tally.result) e tank.tank-tally.ensures))
+    let e : last.largest_return_ratio-end.result ≡ largest_return_ratio plant.tank = last.largest_return_ratio-end.ensures.0 in
+    c.pair_counts.ensures
+    ∙ (ap (λ (n : ℕ). values_from 0 answer_numbers (pairs fraction.fraction_tally-fraction.result tank.tank_tally-tank.result ((n + 1 - least_ratio) * times))) e
+    ∙ pairs_census plant start.args.concentrations fraction.fraction_tally-fraction.result tank.tank_tally-tank.result
+    fraction.fraction_tally-fraction.ensures
+    (subst (λ (n : ℕ). Tally (tank_count plant (n + 1 - least_ratio) times) tank.tank_tally-tank.result) e tank.tank_tally-tank.ensures))
 
 pub grid_counts_spec : {M : Type 1} → statement M
 grid_counts_spec =
@@ -52,5 +52,5 @@ grid_counts_spec =
     (λ c. search rules)
     (λ c κs. search rules)
     (λ c κs. search rules)
-    pair-counts-requires
+    pair_counts-requires
     returns)

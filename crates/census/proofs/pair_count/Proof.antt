@@ -5,14 +5,14 @@ use native.Mathlib.Omega.{arith}
 use Rattle.census.proofs.pair_count.Statement.{statement}
 use Rattle.census.proofs.pair_count.Tie as tie
 
-mul-result : tie.Need-overflow-mul-result
-mul-result c = record { fits = omega (arith, mul-le-mul c.requires.0 c.requires.3) }
+overflow_mul-result : tie.Need-overflow_mul-result
+overflow_mul-result c = record { fits = omega (arith, mul-le-mul c.requires.0 c.requires.3) }
 
-mul-result-2 : tie.Need-overflow-mul-result-2
-mul-result-2 c = record { fits = omega (arith, mul-le-mul c.requires.1 c.requires.2) }
+overflow_mul-result-2 : tie.Need-overflow_mul-result-2
+overflow_mul-result-2 c = record { fits = omega (arith, mul-le-mul c.requires.1 c.requires.2) }
 
-add-result : tie.Need-overflow-add-result
-add-result c = record { fits = omega (arith, mul-le-mul c.requires.0 c.requires.3, mul-le-mul c.requires.1 c.requires.2) }
+overflow_add-result : tie.Need-overflow_add-result
+overflow_add-result c = record { fits = omega (arith, mul-le-mul c.requires.0 c.requires.3, mul-le-mul c.requires.1 c.requires.2) }
 
 pub pair_count_spec : {M : Type 1} → statement M
-pair_count_spec = tie.close (tie.spec mul-result mul-result-2 add-result (λ c. search rules))
+pair_count_spec = tie.close (tie.spec overflow_mul-result overflow_mul-result-2 overflow_add-result (λ c. search rules))

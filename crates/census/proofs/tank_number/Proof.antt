@@ -13,10 +13,10 @@ returns : tie.Need-returns
 unfolding tank_number
 returns c =
     let start = c.before.before.before in (
-      c.verdict-number.ensures.0
-          ∙ (ap verdict_number c.before.tank-verdict.ensures
-          ∙ ap (λ (s : Settling). verdict_number (verdict (tank_rules start.args.plant s))) c.before.before.settling.ensures.0),
-      c.verdict-number.ensures.1,
+      c.verdict_number.ensures.0
+          ∙ (ap verdict_number c.before.tank_verdict.ensures
+          ∙ ap (λ (s : Settling). verdict_number (verdict (tank_rules start.args.plant s))) c.before.before.settling-settling.ensures.0),
+      c.verdict_number.ensures.1,
     )
 
 pub tank_number_spec : {M : Type 1} → statement M

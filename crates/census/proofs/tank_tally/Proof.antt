@@ -33,16 +33,16 @@ ratio-holds c =
     let start = head.before in
     (omega arith, time_begun start.args.plant (start.args.end - least_ratio) head.time.h head.time.tally head.time.invariant.1)
 
-tank-number-requires : tie.Need-tank-number-requires invariant-ratio decreases-ratio invariant-time decreases-time
-tank-number-requires c κs =
+tank_number-number-requires : tie.Need-tank_number-number-requires invariant-ratio decreases-ratio invariant-time decreases-time
+tank_number-number-requires c κs =
     let bottom = c.before.before in
-    ((bottom.before.before.before.requires.0, omega arith, omega arith), bottom.bottom-sludge.ensures.0)
+    ((bottom.before.before.before.requires.0, omega arith, omega arith), bottom.bottom_sludge-bottom.ensures.0)
 
-array-read-tally : tie.Need-array-read-tally invariant-ratio decreases-ratio invariant-time decreases-time
-array-read-tally c = c.tank-number.ensures.1
+bounds-tally-number : tie.Need-bounds-tally-number invariant-ratio decreases-ratio invariant-time decreases-time
+bounds-tally-number c = c.tank_number-number.ensures.1
 
-add-tally : tie.Need-overflow-add-tally invariant-ratio decreases-ratio invariant-time decreases-time
-add-tally c =
+overflow_add-tally : tie.Need-overflow_add-tally invariant-ratio decreases-ratio invariant-time decreases-time
+overflow_add-tally c =
     let head = c.before.before in
     let time = head.before.before.before in
     let start = time.before in
@@ -52,10 +52,10 @@ add-tally c =
     (omega arith)
     (omega arith)
     head.ratio.invariant.1 in
-    record { fits = omega (arith, most.most c.tank-number.result c.tank-number.ensures.1) }
+    record { fits = omega (arith, most.most c.tank_number-number.result c.tank_number-number.ensures.1) }
 
-array-write-tally : tie.Need-array-write-tally invariant-ratio decreases-ratio invariant-time decreases-time
-array-write-tally c = c.tank-number.ensures.1
+bounds-tally-number-in-ratio : tie.Need-bounds-tally-number-in-ratio invariant-ratio decreases-ratio invariant-time decreases-time
+bounds-tally-number-in-ratio c = c.tank_number-number.ensures.1
 
 ratio-again : tie.Need-ratio-preserved invariant-ratio decreases-ratio invariant-time decreases-time
 ratio-again c =
@@ -63,10 +63,10 @@ ratio-again c =
     let time = head.before.before.before in
     let start = time.before in (
       omega arith,
-      tank_tallied start.args.plant (start.args.end - least_ratio) time.time.h head.ratio.r c.tank-number.result head.ratio.tally
+      tank_tallied start.args.plant (start.args.end - least_ratio) time.time.h head.ratio.r c.tank_number-number.result head.ratio.tally
           head.ratio.invariant.0.least
-          c.tank-number.ensures.0
-          c.tank-number.ensures.1
+          c.tank_number-number.ensures.0
+          c.tank_number-number.ensures.1
           head.ratio.invariant.1,
     )
 
@@ -98,12 +98,12 @@ tank_tally_spec =
     time-holds
     (λ c κs. search rules)
     ratio-holds
-    tank-number-requires
+    tank_number-number-requires
     (λ c. search rules)
-    array-read-tally
-    add-tally
+    bounds-tally-number
+    overflow_add-tally
     (λ c. search rules)
-    array-write-tally
+    bounds-tally-number-in-ratio
     (λ c. search rules)
     (λ c. search rules)
     ratio-again

@@ -6,7 +6,7 @@ use Rattle.existing.proofs.operated_on_grid.Tie as tie
 
 returns : tie.Need-returns
 unfolding operated_on_grid
-returns c = rw (c.within2.ensures, c.before.within.ensures)
+returns c = rw (c.within-2.ensures, c.before.within.ensures)
 
 pub operated_on_grid_spec : {M : Type 1} → statement M
 operated_on_grid_spec = tie.close (tie.spec (λ c κs. search rules) (λ c κs. search rules) returns)

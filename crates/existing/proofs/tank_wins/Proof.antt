@@ -5,22 +5,22 @@ use Rattle.existing.proofs.Winning.{tank_by_lem}
 use Rattle.existing.proofs.tank_wins.Statement.{statement}
 use Rattle.existing.proofs.tank_wins.Tie as tie
 
-returns : tie.Need-returns
-returns c =
-    let judged = c.before.before in
-    let start = judged.before.before in
-    sym (tank_by_lem start.args.plant start.args.existing start.args.mass start.args.ratio judged.before.settling.result _
-    judged.before.settling.ensures.0
-    (sym c.enum_told.given.1 ∙ judged.tank-verdict.ensures))
+returns-in-Broken : tie.Need-returns-in-Broken
+returns-in-Broken c =
+    let judged = c.before in
+    let start = judged.before in
+    sym (tank_by_lem start.args.plant start.args.existing start.args.mass start.args.ratio judged.settling-settling.result _
+    judged.settling-settling.ensures.0
+    (sym c.in-Broken.is ∙ judged.tank_verdict.ensures))
 
-returns-2 : tie.Need-returns-2
-returns-2 c =
-    let judged = c.before.before.before.before.before in
-    let start = judged.before.before in
-    rw (c.sizes-fit.ensures, c.before.reactor-volume.ensures.0, c.before.before.reactor-solids.ensures.0)
-    (sym (tank_by_lem start.args.plant start.args.existing start.args.mass start.args.ratio judged.before.settling.result _
-    judged.before.settling.ensures.0
-    (sym c.before.before.before.enum-told2.given.1 ∙ judged.tank-verdict.ensures)))
+returns-in-Kept : tie.Need-returns-in-Kept
+returns-in-Kept c =
+    let judged = c.before in
+    let start = judged.before in
+    rw (c.sizes_fit.ensures, c.reactor_volume-volume.ensures.0, c.reactor_solids-solids.ensures.0)
+    (sym (tank_by_lem start.args.plant start.args.existing start.args.mass start.args.ratio judged.settling-settling.result _
+    judged.settling-settling.ensures.0
+    (sym c.in-Kept.is ∙ judged.tank_verdict.ensures)))
 
 pub tank_wins_spec : {M : Type 1} → statement M
 tank_wins_spec =
@@ -33,5 +33,5 @@ tank_wins_spec =
     (λ c κs. search rules)
     (λ c κs. search rules)
     (λ c κs. search rules)
-    returns
-    returns-2)
+    returns-in-Broken
+    returns-in-Kept)

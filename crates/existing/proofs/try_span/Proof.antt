@@ -39,17 +39,17 @@ index-holds c =
     }
 
 -- an index of the span
-inside : (c : tie.Else1 invariant-index decreases-index) → InSpan c.before.before.before.args.span c.before.before.index.index
-inside c = (c.before.before.index.invariant.least, c.if1.false)
+inside : (c : tie.Else-span-index invariant-index decreases-index) → InSpan c.before.before.before.args.span c.before.before.index.index
+inside c = (c.before.before.index.invariant.least, c.if-span-index.false)
 
-won-at-requires : tie.Need-won-at-requires invariant-index decreases-index
-won-at-requires c κs =
+won_at-requires : tie.Need-won_at-requires invariant-index decreases-index
+won_at-requires c κs =
     let start = c.before.before.before in
     let within = span_index start.args.span _ start.requires.3 (inside c) in
     (start.requires.0, start.requires.1, start.requires.2, record { least = within.0; most = within.1 })
 
-add-index : tie.Need-overflow-add-index invariant-index decreases-index
-add-index c = omega (arith, c.before.before.before.before.index.invariant.most)
+overflow_add-index : tie.Need-overflow_add-index invariant-index decreases-index
+overflow_add-index c = omega (arith, c.before.before.before.before.index.invariant.most)
 
 index-less : tie.Need-index-smaller invariant-index decreases-index
 index-less c =
@@ -68,16 +68,16 @@ index-again c =
       least = omega (arith, head.index.invariant.least);
       most = omega (arith, span_index start.args.span _ start.requires.3 (inside passed));
       each = one_more won start.args.span.least head.index.index head.index.invariant.each
-          (subst (Decides (won head.index.index)) (not-false tried.won-at.result c.if2.false) tried.won-at.ensures);
+          (subst (Decides (won head.index.index)) (c.if-not-won_at.false) tried.won_at.ensures);
     }
 
-returns : tie.Need-returns invariant-index decreases-index
-returns c =
+returns-then-span-index : tie.Need-returns-then-span-index invariant-index decreases-index
+returns-then-span-index c =
     let head = c.before.before in
-    λ i within. head.index.invariant.each i within.0 (omega (arith, within, c.if1.true))
+    λ i within. head.index.invariant.each i within.0 (omega (arith, within, c.if-span-index.true))
 
-returns-2 : tie.Need-returns-2 invariant-index decreases-index
-returns-2 c =
+returns-then-not-won_at : tie.Need-returns-then-not-won_at invariant-index decreases-index
+returns-then-not-won_at c =
     let tried = c.before in
     let passed = tried.before in
     let head = passed.before.before in
@@ -85,7 +85,7 @@ returns-2 c =
     let won = WonAt start.args.plant start.args.existing start.args.mass in
     record {
       member = inside passed;
-      lost = subst (Decides (won head.index.index)) (not-true tried.won-at.result c.if2.true) tried.won-at.ensures;
+      lost = subst (Decides (won head.index.index)) (c.if-not-won_at.true) tried.won_at.ensures;
       smaller = λ i within less. head.index.invariant.each i within.0 less;
     }
 
@@ -96,9 +96,9 @@ try_span_spec =
     invariant-index
     decreases-index
     index-holds
-    won-at-requires
-    add-index
+    won_at-requires
+    overflow_add-index
     index-less
     index-again
-    returns
-    returns-2)
+    returns-then-span-index
+    returns-then-not-won_at)

@@ -24,18 +24,18 @@ invariant-ratio plant existing mass last bottom ratio₀ ratio = Passed plant ex
 abbrev decreases-ratio : tie.decreases-ratio
 decreases-ratio plant existing mass last bottom ratio₀ ratio = last + 1 - ratio
 
-largest-return-ratio-requires : tie.Need-largest-return-ratio-requires invariant-ratio decreases-ratio
-largest-return-ratio-requires c κs = search rules
+largest_return_ratio-last-requires : tie.Need-largest_return_ratio-last-requires invariant-ratio decreases-ratio
+largest_return_ratio-last-requires c κs = search rules
 
-bottom-sludge-requires : tie.Need-bottom-sludge-requires invariant-ratio decreases-ratio
-bottom-sludge-requires c κs = (c.before.requires.0.index, c.before.requires.1)
+bottom_sludge-bottom-requires : tie.Need-bottom_sludge-bottom-requires invariant-ratio decreases-ratio
+bottom_sludge-bottom-requires c κs = (c.before.requires.0.index, c.before.requires.1)
 
 ratio-holds : tie.Need-ratio-init invariant-ratio decreases-ratio
 ratio-holds c =
-    record { least = omega arith; most = omega (arith, c.before.largest-return-ratio.ensures.1); none = λ r l less t. omega (arith, l, less) }
+    record { least = omega arith; most = omega (arith, c.before.largest_return_ratio-last.ensures.1); none = λ r l less t. omega (arith, l, less) }
 
-tank-wins-requires : tie.Need-tank-wins-requires invariant-ratio decreases-ratio
-tank-wins-requires c κs =
+tank_wins-requires : tie.Need-tank_wins-requires invariant-ratio decreases-ratio
+tank_wins-requires c κs =
     let head = c.before in
     let rooted = head.before in
     let start = rooted.before.before in (
@@ -43,16 +43,16 @@ tank-wins-requires c κs =
         start.requires.0,
         start.requires.1,
         start.requires.2,
-        record { least = head.ratio.invariant.least; most = omega (arith, c.if1.false, rooted.before.largest-return-ratio.ensures.1) },
+        record { least = head.ratio.invariant.least; most = omega (arith, c.if-last-ratio.false, rooted.before.largest_return_ratio-last.ensures.1) },
       ),
-      rooted.bottom-sludge.ensures.0,
+      rooted.bottom_sludge-bottom.ensures.0,
     )
 
-add-ratio : tie.Need-overflow-add-ratio invariant-ratio decreases-ratio
-add-ratio c = let head = c.before.before.before in omega (arith, head.ratio.invariant.most, head.before.before.largest-return-ratio.ensures.1)
+overflow_add-ratio : tie.Need-overflow_add-ratio invariant-ratio decreases-ratio
+overflow_add-ratio c = let head = c.before.before.before in omega (arith, head.ratio.invariant.most, head.before.before.largest_return_ratio-last.ensures.1)
 
 ratio-less : tie.Need-ratio-smaller invariant-ratio decreases-ratio
-ratio-less c = omega (arith, c.before.before.if1.false)
+ratio-less c = omega (arith, c.before.before.if-last-ratio.false)
 
 ratio-again : tie.Need-ratio-preserved invariant-ratio decreases-ratio
 ratio-again c =
@@ -62,25 +62,25 @@ ratio-again c =
     let wins = tank_wins start.args.plant start.args.existing start.args.mass in
     record {
       least = omega (arith, head.ratio.invariant.least);
-      most = omega (arith, tried.before.if1.false);
+      most = omega (arith, tried.before.if-last-ratio.false);
       none = one_more (λ (r : ℕ). T (wins r) → ⊥) least_ratio head.ratio.ratio head.ratio.invariant.none
-          (λ t. subst T (sym tried.tank-wins.ensures ∙ c.if2.false) t);
+          (λ t. subst T (sym tried.tank_wins.ensures ∙ c.if-tank_wins.false) t);
     }
 
-returns : tie.Need-returns invariant-ratio decreases-ratio
-returns c = λ w.
+returns-then-last-ratio : tie.Need-returns-then-last-ratio invariant-ratio decreases-ratio
+returns-then-last-ratio c = λ w.
     let head = c.before in
-    head.ratio.invariant.none w.ratio w.least (omega (arith, w.most, c.if1.true, head.before.before.largest-return-ratio.ensures.0)) w.won
+    head.ratio.invariant.none w.ratio w.least (omega (arith, w.most, c.if-last-ratio.true, head.before.before.largest_return_ratio-last.ensures.0)) w.won
 
-returns-2 : tie.Need-returns-2 invariant-ratio decreases-ratio
-returns-2 c =
+returns-then-tank_wins : tie.Need-returns-then-tank_wins invariant-ratio decreases-ratio
+returns-then-tank_wins c =
     let tried = c.before in
     let head = tried.before.before in
     record {
       ratio = head.ratio.ratio;
       least = head.ratio.invariant.least;
-      most = omega (arith, tried.before.if1.false, head.before.before.largest-return-ratio.ensures.0);
-      won = subst T (sym (sym tried.tank-wins.ensures ∙ c.if2.true)) tt;
+      most = omega (arith, tried.before.if-last-ratio.false, head.before.before.largest_return_ratio-last.ensures.0);
+      won = subst T (sym (sym tried.tank_wins.ensures ∙ c.if-tank_wins.true)) tt;
     }
 
 pub won_spec : {M : Type 1} → statement M
@@ -89,12 +89,12 @@ won_spec =
     (tie.spec
     invariant-ratio
     decreases-ratio
-    largest-return-ratio-requires
-    bottom-sludge-requires
+    largest_return_ratio-last-requires
+    bottom_sludge-bottom-requires
     ratio-holds
-    tank-wins-requires
-    add-ratio
+    tank_wins-requires
+    overflow_add-ratio
     ratio-less
     ratio-again
-    returns
-    returns-2)
+    returns-then-last-ratio
+    returns-then-tank_wins)

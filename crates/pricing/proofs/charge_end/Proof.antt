@@ -4,11 +4,11 @@ use native.Mathlib.Omega.{arith}
 use Rattle.pricing.proofs.charge_end.Statement.{statement}
 use Rattle.pricing.proofs.charge_end.Tie as tie
 
-returns-2 : tie.Need-returns-2
-returns-2 c = rw c.before.if1.false (omega arith, omega arith)
+returns-then-limit-volume : tie.Need-returns-then-limit-volume
+returns-then-limit-volume c = rw c.before.if-last.false (omega arith, omega arith)
 
-returns-3 : tie.Need-returns-3
-returns-3 c = rw c.before.if1.false (omega arith, omega arith)
+returns-else-limit-volume : tie.Need-returns-else-limit-volume
+returns-else-limit-volume c = rw c.before.if-last.false (omega arith, omega arith)
 
 pub charge_end_spec : {M : Type 1} → statement M
-charge_end_spec = tie.close (tie.spec (λ c. search rules) returns-2 returns-3)
+charge_end_spec = tie.close (tie.spec (λ c. search rules) returns-then-limit-volume returns-else-limit-volume)

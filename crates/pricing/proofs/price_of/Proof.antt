@@ -11,24 +11,24 @@ use Rattle.pricing.proofs.price_of.Statement.{statement}
 use Rattle.pricing.proofs.price_of.Tie as tie
 
 -- the sum before surcharge
-sum_most : (c : tie.After-volume-price2) → c.before.volume-price.result + c.volume-price2.result ≤ 42_000_000_000_000
+sum_most : (c : tie.After-volume_price-settling) → c.before.volume_price-reactor.result + c.volume_price-settling.result ≤ 42_000_000_000_000
 sum_most c =
     let start = c.before.before.before in
-    omega (arith, c.before.volume-price.ensures.1, c.volume-price2.ensures.1, start.requires.1)
+    omega (arith, c.before.volume_price-reactor.ensures.1, c.volume_price-settling.ensures.1, start.requires.1)
 
-surcharge-most : (c : tie.After-volume-price2) → c.before.before.before.args.tariff.surcharge ≤ most_surcharge
+surcharge-most : (c : tie.After-volume_price-settling) → c.before.before.before.args.tariff.surcharge ≤ most_surcharge
 surcharge-most c = let start = c.before.before.before in (valid_tariff start.args.tariff start.requires.0).surcharge
 
-mul-round-up : tie.Need-overflow-mul-round-up
-mul-round-up c = omega (arith, mul-le-mul (sum_most c) (surcharge-most c))
+overflow_mul-sum : tie.Need-overflow_mul-sum
+overflow_mul-sum c = omega (arith, mul-le-mul (sum_most c) (surcharge-most c))
 
-round-up-requires : tie.Need-round-up-requires
-round-up-requires c κs = (omega arith, omega (arith, mul-le-mul (sum_most c) (surcharge-most c)))
+round_up-requires : tie.Need-round_up-requires
+round_up-requires c κs = (omega arith, omega (arith, mul-le-mul (sum_most c) (surcharge-most c)))
 
-add-result : tie.Need-overflow-add-result
-add-result c =
+overflow_add-result : tie.Need-overflow_add-result
+overflow_add-result c =
     let summed = c.before in
-    let sum = summed.before.volume-price.result + summed.volume-price2.result in
+    let sum = summed.before.volume_price-reactor.result + summed.volume_price-settling.result in
     let extra = (up_le (sum * summed.before.before.before.args.tariff.surcharge) 1000 21_000_000_000_000 (omega arith)).1 (omega (arith, mul-le-mul (sum_most summed) (surcharge-most summed))) in
     omega (arith, sum_most summed, c.round_up.ensures, extra)
 
@@ -36,7 +36,7 @@ returns : tie.Need-returns
 unfolding tanks_price price_of
 returns c =
     let summed = c.before in
-    rw (c.round_up.ensures, summed.volume-price2.ensures.0, summed.before.volume-price.ensures.0)
+    rw (c.round_up.ensures, summed.volume_price-settling.ensures.0, summed.before.volume_price-reactor.ensures.0)
 
 pub price_of_spec : {M : Type 1} → statement M
 price_of_spec =
@@ -46,7 +46,7 @@ price_of_spec =
     (λ c κs. search rules)
     (λ c κs. search rules)
     (λ c. search rules)
-    mul-round-up
-    round-up-requires
-    add-result
+    overflow_mul-sum
+    round_up-requires
+    overflow_add-result
     returns)

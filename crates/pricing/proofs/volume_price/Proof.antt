@@ -53,13 +53,13 @@ step volume count limits prices charged cost k limit price end metres h below l 
     both = m ∙ ap₂ ◌-◌ (e ∙ ap (λ (n : ℕ). charge_end (eqb (k + 1) count) n volume) l) h.metres
 
 -- the bands of a valid tariff are at most six
-few : (c : tie.In-band invariant-band decreases-band) → c.before.band.k < 6
-few c = omega (arith, c.band-test, (valid_tariff c.before.before.before.before.args.tariff c.before.before.before.before.requires.0).most)
+few : (c : tie.In-band-unread invariant-band decreases-band) → c.band.k < 6
+few c = omega (arith, c.band-test, (valid_tariff c.args.tariff c.requires.0).most)
 
 -- what is charged so far, and what it costs
 limits : (head : tie.At-band invariant-band decreases-band) → (head.band.charged ≤ 40_000_000) × (head.band.cost ≤ 40_000_000 * most_price)
 limits head =
-    let start = head.before.before.before in
+    let start = head.before in
     let t = start.args.tariff in
     let inv = head.band.invariant in
     let within : head.band.charged ≤ start.args.volume = subst (λ (n : ℕ). n ≤ start.args.volume) (sym inv.metres) (after_bands t start.args.volume head.band.k inv.most).within in
@@ -70,33 +70,33 @@ limits head =
     (cost_most t start.args.volume head.band.k (valid_tariff t start.requires.0) inv.most)) in
     (charged, omega (arith, charged, cost))
 
-array-read-wide : tie.Need-array-read-wide invariant-band decreases-band
-array-read-wide c = few c
+bounds-limits-k : tie.Need-bounds-limits-k invariant-band decreases-band
+bounds-limits-k c = few c
 
-array-read-wide-2 : tie.Need-array-read-wide-2 invariant-band decreases-band
-array-read-wide-2 c = few c.before
+bounds-prices-k : tie.Need-bounds-prices-k invariant-band decreases-band
+bounds-prices-k c = few c.before
 
 -- the metres of a band, and their price
-amounts : (c : tie.After-less invariant-band decreases-band) → (c.less.result ≤ 40_000_000) × (c.before.before.wide2.result ≤ most_price)
+amounts : (c : tie.After-less-metres invariant-band decreases-band) → (c.less-metres.result ≤ 40_000_000) × (c.wide-price.result ≤ most_price)
 amounts c =
     let ended = c.before in
     let second = ended.before in
-    let inside = second.before.before in
+    let inside = second.before in
     let head = inside.before in
-    let start = head.before.before.before in
+    let start = head.before in
     let t = start.args.tariff in (
-      omega (arith, c.less.ensures, ended.charge-end.ensures.1, start.requires.1),
-      subst (λ (n : ℕ). n ≤ most_price) (sym second.wide2.ensures.0) ((valid_tariff t start.requires.0).prices head.band.k inside.band-test.true),
+      omega (arith, c.less-metres.ensures, ended.charge_end-end.ensures.1, start.requires.1),
+      subst (λ (n : ℕ). n ≤ most_price) (sym second.wide-price.ensures.0) ((valid_tariff t start.requires.0).prices head.band.k inside.band-test.true),
     )
 
-mul-cost : tie.Need-overflow-mul-cost invariant-band decreases-band
-mul-cost c = let a = amounts c in omega (arith, mul-le-mul a.0 a.1)
+overflow_mul-cost : tie.Need-overflow_mul-cost invariant-band decreases-band
+overflow_mul-cost c = let a = amounts c in omega (arith, mul-le-mul a.0 a.1)
 
-add-cost : tie.Need-overflow-add-cost invariant-band decreases-band
-add-cost c = let a = amounts c in omega (arith, mul-le-mul a.0 a.1, limits c.before.before.before.before.before)
+overflow_add-cost : tie.Need-overflow_add-cost invariant-band decreases-band
+overflow_add-cost c = let a = amounts c in omega (arith, mul-le-mul a.0 a.1, limits c.before)
 
-add-charged : tie.Need-overflow-add-charged invariant-band decreases-band
-add-charged c = omega (arith, (amounts c).0, (limits c.before.before.before.before.before).0)
+overflow_add-charged : tie.Need-overflow_add-charged invariant-band decreases-band
+overflow_add-charged c = omega (arith, (amounts c).0, (limits c.before).0)
 
 band-again : tie.Need-band-preserved invariant-band decreases-band
 band-again c =
@@ -105,17 +105,17 @@ band-again c =
     let first = second.before in
     let inside = first.before in
     let head = inside.before in
-    let start = head.before.before.before in
+    let start = head.before in
     step start.args.volume start.args.tariff.count start.args.tariff.limits start.args.tariff.prices _ _ head.band.k _ _ _ _ head.band.invariant inside.band-test.true
-    first.wide.ensures.0
-    second.wide2.ensures.0
-    ended.charge-end.ensures.0
-    c.less.ensures
+    first.wide-limit.ensures.0
+    second.wide-price.ensures.0
+    ended.charge_end-end.ensures.0
+    c.less-metres.ensures
 
 returns : tie.Need-returns invariant-band decreases-band
 returns c =
     let head = c.before in
-    let start = head.before.before.before in
+    let start = head.before in
     let t = start.args.tariff in
     let valid = valid_tariff t start.requires.0 in
     let last : head.band.k ≡ t.count = omega (arith, head.band.invariant.most, c.band-test.false) in
@@ -131,18 +131,18 @@ volume_price_spec =
     band-holds
     (λ c. search rules)
     (λ c. search rules)
-    array-read-wide
+    bounds-limits-k
     (λ c κs. search rules)
     (λ c. search rules)
     (λ c. search rules)
-    array-read-wide-2
+    bounds-prices-k
     (λ c κs. search rules)
     (λ c. search rules)
     (λ c κs. search rules)
     (λ c κs. search rules)
-    mul-cost
-    add-cost
-    add-charged
+    overflow_mul-cost
+    overflow_add-cost
+    overflow_add-charged
     (λ c. search rules)
     (λ c. search rules)
     band-again
