@@ -74,7 +74,7 @@ bounds-limits-k : tie.Need-bounds-limits-k invariant-band decreases-band
 bounds-limits-k c = few c
 
 bounds-prices-k : tie.Need-bounds-prices-k invariant-band decreases-band
-bounds-prices-k c = few c.before
+bounds-prices-k c = omega (arith, c.band-test, (valid_tariff c.args.tariff c.requires.0).most)
 
 -- the metres of a band, and their price
 amounts : (c : tie.After-less-metres invariant-band decreases-band) → (c.less-metres.result ≤ 40_000_000) × (c.wide-price.result ≤ most_price)
@@ -93,10 +93,10 @@ overflow_mul-cost : tie.Need-overflow_mul-cost invariant-band decreases-band
 overflow_mul-cost c = let a = amounts c in omega (arith, mul-le-mul a.0 a.1)
 
 overflow_add-cost : tie.Need-overflow_add-cost invariant-band decreases-band
-overflow_add-cost c = let a = amounts c in omega (arith, mul-le-mul a.0 a.1, limits c.before)
+overflow_add-cost c = let a = amounts c in omega (arith, mul-le-mul a.0 a.1, limits c.before.before.before.before.before)
 
 overflow_add-charged : tie.Need-overflow_add-charged invariant-band decreases-band
-overflow_add-charged c = omega (arith, (amounts c).0, (limits c.before).0)
+overflow_add-charged c = omega (arith, (amounts c).0, (limits c.before.before.before.before.before).0)
 
 band-again : tie.Need-band-preserved invariant-band decreases-band
 band-again c =
