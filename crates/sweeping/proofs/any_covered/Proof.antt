@@ -48,8 +48,8 @@ decreases-fraction plant concentrations seasons first last covered₀ f₀ f-end
 fraction-holds : tie.Need-fraction-init invariant-fraction decreases-fraction
 fraction-holds c = (omega arith, λ e g a b. absurd (omega (arith, a, b)))
 
-kept-mass-requires : tie.Need-kept-mass-requires invariant-fraction decreases-fraction
-kept-mass-requires c κs =
+kept_mass-mass-requires : tie.Need-kept_mass-mass-requires invariant-fraction decreases-fraction
+kept_mass-mass-requires c κs =
     let head = c.before in
     let start = head.before in
     let f : GridFraction head.fraction.f = omega (arith, head.fraction.invariant.0, c.fraction-test, start.requires.3, start.requires.4) in
@@ -60,7 +60,7 @@ fraction-again c =
     let head = c.before.before in
     let start = head.before in (
       omega (arith, head.fraction.invariant.0),
-      one_more start.args.plant start.args.concentrations start.args.first head.fraction.f c.kept-mass.result head.fraction.covered c.kept-mass.ensures (search rules) head.fraction.invariant.1,
+      one_more start.args.plant start.args.concentrations start.args.first head.fraction.f c.kept_mass-mass.result head.fraction.covered c.kept_mass-mass.ensures (search rules) head.fraction.invariant.1,
     )
 
 returns : tie.Need-returns invariant-fraction decreases-fraction
@@ -76,7 +76,7 @@ any_covered_spec =
     decreases-fraction
     (λ c. search rules)
     fraction-holds
-    kept-mass-requires
+    kept_mass-mass-requires
     (λ c. search rules)
     (λ c. omega arith)
     fraction-again

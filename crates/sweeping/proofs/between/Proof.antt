@@ -25,7 +25,7 @@ part-requires : tie.Need-part-requires
 part-requires c κs =
     let start = c.before.before in
     let s = start.requires.4 in
-    let e = c.if1.true in (
+    let e = c.if-f-g.true in (
       start.requires.0,
       start.requires.1,
       start.requires.2,
@@ -35,38 +35,38 @@ part-requires c κs =
       λ h. record { least = s.least; most = omega (arith, e, off_end start.args.past.fraction start.args.past.tank (omega (arith, h)) s.most s.end) },
     )
 
-returns : tie.Need-returns
-returns c =
+returns-then-f-g : tie.Need-returns-then-f-g
+returns-then-f-g c =
     let start = c.before.before.before in
     subst (λ (n : ℕ). LeastKey start.args.plant start.args.concentrations (Visited start.args.plant (tank_place start.args.first.fraction start.args.first.tank) (tank_place n start.args.past.tank)) c.part.result)
-    c.before.if1.true
+    c.before.if-f-g.true
     c.part.ensures
 
 -- the first fraction comes before the second
-apart : (c : tie.Else1) → c.before.before.args.first.fraction < c.before.before.args.past.fraction
-apart c = omega (arith, c.before.before.requires.4.fractions, c.if1.false)
+apart : (c : tie.Else-f-g) → c.before.before.args.first.fraction < c.before.before.args.past.fraction
+apart c = omega (arith, c.before.before.requires.4.fractions, c.if-f-g.false)
 
-part-requires-2 : tie.Need-part-requires-2
-part-requires-2 c κs =
+part-head-requires : tie.Need-part-head-requires
+part-head-requires c κs =
     let start = c.before.before.before in
     let s = start.requires.4 in (
       start.requires.0,
       start.requires.1,
       start.requires.2,
       start.requires.3,
-      omega (arith, s.from, c.per-fraction.ensures),
-      omega (arith, c.per-fraction.ensures),
+      omega (arith, s.from, c.per_fraction-end.ensures),
+      omega (arith, c.per_fraction-end.ensures),
       λ h. record { least = s.least; most = omega (arith, apart c.before, s.most) },
     )
 
-fractions-requires : tie.Need-fractions-requires
-fractions-requires c κs =
+fractions-whole-requires : tie.Need-fractions-whole-requires
+fractions-whole-requires c κs =
     let start = c.before.before.before.before in
     let s = start.requires.4 in
     (start.requires.0, start.requires.1, start.requires.2, start.requires.3, record { least = omega (arith, s.least); most = omega (arith, apart c.before.before) }, s.most)
 
-part-requires-3 : tie.Need-part-requires-3
-part-requires-3 c κs =
+part-tail-requires : tie.Need-part-tail-requires
+part-tail-requires c κs =
     let start = c.before.before.before.before.before in
     let s = start.requires.4 in (
       start.requires.0,
@@ -78,8 +78,8 @@ part-requires-3 c κs =
       λ h. record { least = omega (arith, s.least, s.fractions); most = off_end start.args.past.fraction start.args.past.tank h s.most s.end },
     )
 
-returns-2 : tie.Need-returns-2
-returns-2 c =
+returns : tie.Need-returns
+returns c =
     let tail = c.before.before in
     let whole = tail.before in
     let head = whole.before in
@@ -93,29 +93,29 @@ returns-2 c =
     let s = start.requires.4 in
     let less = apart end.before in
     let most = most_tanks_lem p.tank in
-    let first : LeastKey p x (Visited p from (first_place (f + 1))) head.part2.result =
-    fraction_end p x from f head.part2.result
-    (subst (λ (n : ℕ). LeastKey p x (Visited p from (tank_place f n)) head.part2.result) end.per-fraction.ensures head.part2.ensures) in
-    let two : LeastKey p x (Visited p from (first_place g)) (min head.part2.result whole.fractions.result) =
-    joined p x from (first_place (f + 1)) (first_place g) head.part2.result whole.fractions.result (omega (arith, s.from, most)) (omega (arith, less)) first whole.fractions.ensures in
-    rw (c.lesser2.ensures, c.before.lesser.ensures)
-    (joined p x from (first_place g) (tank_place g start.args.past.tank) (min head.part2.result whole.fractions.result) tail.part3.result
+    let first : LeastKey p x (Visited p from (first_place (f + 1))) head.part-head.result =
+    fraction_end p x from f head.part-head.result
+    (subst (λ (n : ℕ). LeastKey p x (Visited p from (tank_place f n)) head.part-head.result) end.per_fraction-end.ensures head.part-head.ensures) in
+    let two : LeastKey p x (Visited p from (first_place g)) (min head.part-head.result whole.fractions-whole.result) =
+    joined p x from (first_place (f + 1)) (first_place g) head.part-head.result whole.fractions-whole.result (omega (arith, s.from, most)) (omega (arith, less)) first whole.fractions-whole.ensures in
+    rw (c.lesser-2.ensures, c.before.lesser.ensures)
+    (joined p x from (first_place g) (tank_place g start.args.past.tank) (min head.part-head.result whole.fractions-whole.result) tail.part-tail.result
     (omega (arith, s.from, most, less))
     (omega arith)
     two
-    tail.part3.ensures)
+    tail.part-tail.ensures)
 
 pub between_spec : {M : Type 1} → statement M
 between_spec =
     tie.close
     (tie.spec
     part-requires
-    returns
+    returns-then-f-g
     (λ c κs. search rules)
-    part-requires-2
+    part-head-requires
     (λ c. search rules)
-    fractions-requires
-    part-requires-3
+    fractions-whole-requires
+    part-tail-requires
     (λ c κs. search rules)
     (λ c κs. search rules)
-    returns-2)
+    returns)

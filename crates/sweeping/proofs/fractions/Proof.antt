@@ -34,10 +34,10 @@ fraction-holds c =
     let first = c.before.before in
     (omega (arith, first.requires.4), start first.args.plant first.args.concentrations (first_place first.args.first), inl refl, le_refl none_yet)
 
-kept-mass-requires : tie.Need-kept-mass-requires invariant-fraction decreases-fraction
-kept-mass-requires c κs = let first = c.before.before.before.before in (first.requires.0, first.requires.1, present c, first.requires.2)
+kept_mass-mass-requires : tie.Need-kept_mass-mass-requires invariant-fraction decreases-fraction
+kept_mass-mass-requires c κs = let first = c.before.before.before.before in (first.requires.0, first.requires.1, present c, first.requires.2)
 
-fraction-again : tie.Need-fraction-preserved invariant-fraction decreases-fraction
+fraction-again : tie.Need-fraction-preserved-then-lightest-mass invariant-fraction decreases-fraction
 fraction-again c =
     let mass = c.before in
     let head = mass.before.before in
@@ -48,10 +48,10 @@ fraction-again c =
     let f = head.fraction.f in
     let l = head.fraction.lightest in (
       omega (arith, head.fraction.invariant.0, mass.before.fraction-test),
-      fraction_left plant concentrations first.requires.0 first.requires.1 from f l mass.kept-mass.result head.fraction.best
+      fraction_left plant concentrations first.requires.0 first.requires.1 from f l mass.kept_mass-mass.result head.fraction.best
           first.requires.4.least
-          (sym mass.kept-mass.ensures)
-          c.if1.true
+          (sym mass.kept_mass-mass.ensures)
+          c.if-lightest-mass.true
           head.fraction.invariant.2
           head.fraction.invariant.1,
       later_fraction plant concentrations from f l head.fraction.invariant.2,
@@ -59,8 +59,8 @@ fraction-again c =
     )
 
 -- the present fraction's mass is that of a covered fraction
-below : (c : tie.Else1 invariant-fraction decreases-fraction) → c.before.kept-mass.result < none_yet
-below c = omega (arith, c.if1.false, c.before.before.before.fraction.invariant.3)
+below : (c : tie.Else-lightest-mass invariant-fraction decreases-fraction) → c.before.kept_mass-mass.result < none_yet
+below c = omega (arith, c.if-lightest-mass.false, c.before.before.before.fraction.invariant.3)
 
 run-requires : tie.Need-run-requires invariant-fraction decreases-fraction
 run-requires c κs =
@@ -71,14 +71,14 @@ run-requires c κs =
     let plant = first.args.plant in
     let concentrations = first.args.concentrations in
     let f = present mass.before in (
-      mass_most plant concentrations first.requires.0 first.requires.1 head.fraction.f mass.kept-mass.result f (sym mass.kept-mass.ensures) (below c),
+      mass_most plant concentrations first.requires.0 first.requires.1 head.fraction.f mass.kept_mass-mass.result f (sym mass.kept_mass-mass.ensures) (below c),
       f.most,
       omega arith,
-      omega (arith, counted.per-fraction.ensures, most_tanks_lem plant.tank),
-      tanks_most plant concentrations first.requires.0 first.requires.1 head.fraction.f f first.args.table.now first.requires.3 _ (omega (arith, counted.per-fraction.ensures)),
+      omega (arith, counted.per_fraction-tanks.ensures, most_tanks_lem plant.tank),
+      tanks_most plant concentrations first.requires.0 first.requires.1 head.fraction.f f first.args.table.now first.requires.3 _ (omega (arith, counted.per_fraction-tanks.ensures)),
     )
 
-fraction-again-2 : tie.Need-fraction-preserved-2 invariant-fraction decreases-fraction
+fraction-again-2 : tie.Need-fraction-preserved invariant-fraction decreases-fraction
 fraction-again-2 c =
     let run = c.before in
     let mass = run.before.before in
@@ -89,14 +89,14 @@ fraction-again-2 c =
     let concentrations = first.args.concentrations in
     let from = first.args.first in
     let f = head.fraction.f in
-    let kept = sym mass.kept-mass.ensures in (
+    let kept = sym mass.kept_mass-mass.ensures in (
       omega (arith, head.fraction.invariant.0, mass.before.fraction-test),
-      rw (c.lesser.ensures, run.run.ensures)
+      rw (c.lesser-best.ensures, run.run.ensures)
           (joined plant concentrations (first_place from) (first_place f) (first_place (f + 1)) head.fraction.best _
           (omega (arith, head.fraction.invariant.0))
           (omega arith)
           head.fraction.invariant.1
-          (whole_fraction plant concentrations first.requires.0 first.requires.1 f (present mass.before) first.args.table.now first.requires.3 mass.kept-mass.result counted.per-fraction.result counted.per-fraction.ensures kept (below run.before))),
+          (whole_fraction plant concentrations first.requires.0 first.requires.1 f (present mass.before) first.args.table.now first.requires.3 mass.kept_mass-mass.result counted.per_fraction-tanks.result counted.per_fraction-tanks.ensures kept (below run.before))),
       inr (f, omega (arith, head.fraction.invariant.0), omega arith, kept),
       omega (arith, below run.before),
     )
@@ -116,7 +116,7 @@ fractions_spec =
     decreases-fraction
     (λ c κs. search rules)
     fraction-holds
-    kept-mass-requires
+    kept_mass-mass-requires
     (λ c. search rules)
     (λ c. omega arith)
     fraction-again

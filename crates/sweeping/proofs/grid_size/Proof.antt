@@ -5,13 +5,13 @@ use Rattle.rules.specs.Census.{grid_size}
 use Rattle.sweeping.proofs.grid_size.Statement.{statement}
 use Rattle.sweeping.proofs.grid_size.Tie as tie
 
-returns : tie.Need-returns
+returns-in-Horizontal : tie.Need-returns-in-Horizontal
 unfolding grid_size
-returns c = (rw c.enum_told.given.1, omega arith)
+returns-in-Horizontal c = (rw c.in-Horizontal.is, omega arith)
 
-returns-2 : tie.Need-returns-2
+returns-in-Vertical : tie.Need-returns-in-Vertical
 unfolding grid_size
-returns-2 c = (rw c.enum-told2.given.1, omega arith)
+returns-in-Vertical c = (rw c.in-Vertical.is, omega arith)
 
 pub grid_size_spec : {M : Type 1} → statement M
-grid_size_spec = tie.close (tie.spec (λ c. search rules) (λ c. search rules) returns returns-2)
+grid_size_spec = tie.close (tie.spec (λ c. search rules) (λ c. search rules) returns-in-Horizontal returns-in-Vertical)

@@ -8,13 +8,13 @@ use Rattle.sweeping.specs.Spots.{key_best}
 use Rattle.sweeping.proofs.key_best.Statement.{statement}
 use Rattle.sweeping.proofs.key_best.Tie as tie
 
+returns-then-key-eq-NONE_YET : tie.Need-returns-then-key-eq-NONE_YET
+unfolding key_best
+returns-then-key-eq-NONE_YET c = rw (eq-eqb c.before.args.key none_yet c.if-key-eq-NONE_YET.true)
+
 returns : tie.Need-returns
 unfolding key_best
-returns c = rw (eq-eqb c.before.args.key none_yet c.if1.true)
-
-returns-2 : tie.Need-returns-2
-unfolding key_best
-returns-2 c = let test = c.before in rw (ne_eqb test.before.args.key none_yet test.if1.false) (ap Best.At c.key-candidate.ensures)
+returns c = let test = c.before in rw (ne_eqb test.before.args.key none_yet test.if-key-eq-NONE_YET.false) (ap Best.At c.key_candidate.ensures)
 
 pub key_best_spec : {M : Type 1} → statement M
-key_best_spec = tie.close (tie.spec returns (λ c κs. search rules) returns-2)
+key_best_spec = tie.close (tie.spec returns-then-key-eq-NONE_YET (λ c κs. search rules) returns)

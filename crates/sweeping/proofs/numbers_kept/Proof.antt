@@ -11,7 +11,7 @@ use Rattle.sweeping.proofs.numbers_kept.Tie as tie
 returns : tie.Need-returns
 returns c =
     let start = c.before in
-    ap (λ (size : ℕ). leb start.args.n most_advance && leb start.args.asked size) c.grid-size.ensures.0
+    ap (λ (size : ℕ). leb start.args.n most_advance && leb start.args.asked size) c.grid_size.ensures.0
 
 pub numbers_kept_spec : {M : Type 1} → statement M
 numbers_kept_spec = tie.close (tie.spec (λ c κs. search rules) returns)

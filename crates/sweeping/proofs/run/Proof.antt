@@ -17,12 +17,12 @@ invariant-tank table mass fraction from to best₀ i₀ best i =
 abbrev decreases-tank : tie.decreases-tank
 decreases-tank table mass fraction from to best₀ i₀ best i = to - i
 
-improved-requires : tie.Need-improved-requires invariant-tank decreases-tank
-improved-requires c κs =
+improved-best-requires : tie.Need-improved-best-requires invariant-tank decreases-tank
+improved-best-requires c κs =
     let head = c.before.before in
     let start = head.before.before in
     let below = c.before.tank-test.true in
-    (start.requires.0, rw c.tank-at.ensures (start.requires.4.most head.tank.i below).solids, rw c.tank-at.ensures (start.requires.4.most head.tank.i below).volume, start.requires.1, omega (arith, start.requires.3, below), omega arith)
+    (start.requires.0, rw c.tank_at-tank.ensures (start.requires.4.most head.tank.i below).solids, rw c.tank_at-tank.ensures (start.requires.4.most head.tank.i below).volume, start.requires.1, omega (arith, start.requires.3, below), omega arith)
 
 tank-again : tie.Need-tank-preserved invariant-tank decreases-tank
 tank-again c =
@@ -30,7 +30,7 @@ tank-again c =
     let start = head.before.before in
     let below = c.before.before.tank-test.true in (
       omega (arith, head.tank.invariant.0, below),
-      rw (c.improved.ensures, c.before.tank-at.ensures)
+      rw (c.improved-best.ensures, c.before.tank_at-tank.ensures)
           (sym (run_turn start.args.table.now start.args.mass start.args.fraction head.tank.i start.args.to head.tank.best below) ∙ head.tank.invariant.1),
     )
 
@@ -51,7 +51,7 @@ run_spec =
     (λ c κs. omega (arith, c.before.before.before.requires.3, c.before.before.before.requires.4.size, c.tank-test.true))
     (λ c. search rules)
     (λ c. search rules)
-    improved-requires
+    improved-best-requires
     (λ c. search rules)
     (λ c. omega arith)
     tank-again

@@ -15,31 +15,31 @@ use Rattle.sweeping.proofs.Runs.{uncovered, between_fractions}
 use Rattle.sweeping.proofs.stretch.Statement.{statement}
 use Rattle.sweeping.proofs.stretch.Tie as tie
 
-spot-at-requires : tie.Need-spot-at-requires
-spot-at-requires c κs = let start = c.before in omega (arith, start.requires.2, start.requires.3, grid_most start.args.plant.tank)
+spot_at-first-requires : tie.Need-spot_at-first-requires
+spot_at-first-requires c κs = let start = c.before in omega (arith, start.requires.2, start.requires.3, grid_most start.args.plant.tank)
 
-spot-at-requires-2 : tie.Need-spot-at-requires-2
-spot-at-requires-2 c κs = let start = c.before.before in omega (arith, start.requires.3, grid_most start.args.plant.tank)
+spot_at-past-requires : tie.Need-spot_at-past-requires
+spot_at-past-requires c κs = let start = c.before.before in omega (arith, start.requires.3, grid_most start.args.plant.tank)
 
 -- the two spots are in order
-in_order : (c : tie.After-spot-at2) → SpotsInOrder c.before.before.before.args.plant.tank c.before.spot-at.result c.spot-at2.result
+in_order : (c : tie.After-spot_at-past) → SpotsInOrder c.before.before.before.args.plant.tank c.before.spot_at-first.result c.spot_at-past.result
 in_order c =
     let start = c.before.before.before in
-    rw (c.before.spot-at.ensures, c.spot-at2.ensures) (spots_in_order start.args.plant.tank start.args.from start.args.to start.requires.2 start.requires.3)
+    rw (c.before.spot_at-first.ensures, c.spot_at-past.ensures) (spots_in_order start.args.plant.tank start.args.from start.args.to start.requires.2 start.requires.3)
 
-any-covered-requires : tie.Need-any-covered-requires
-any-covered-requires c κs =
+any_covered-requires : tie.Need-any_covered-requires
+any_covered-requires c κs =
     let past = c.before in
     let seasons = past.before.before in
     let start = seasons.before in
-    (start.requires.0, start.requires.1, seasons.seasons-of.ensures, (in_order past).least, omega (arith, c.smaller.ensures))
+    (start.requires.0, start.requires.1, seasons.seasons_of-seasons.ensures, (in_order past).least, omega (arith, c.smaller-last.ensures))
 
 -- the least key between the two spots is that of the stretch
 of_stretch :
-    (c : tie.After-spot-at2) (key : ℕ)
+    (c : tie.After-spot_at-past) (key : ℕ)
     → LeastKey c.before.before.before.args.plant c.before.before.before.args.concentrations
-    (Visited c.before.before.before.args.plant (tank_place c.before.spot-at.result.fraction c.before.spot-at.result.tank)
-    (tank_place c.spot-at2.result.fraction c.spot-at2.result.tank))
+    (Visited c.before.before.before.args.plant (tank_place c.before.spot_at-first.result.fraction c.before.spot_at-first.result.tank)
+    (tank_place c.spot_at-past.result.fraction c.spot_at-past.result.tank))
     key
     → LeastKey c.before.before.before.args.plant c.before.before.before.args.concentrations
     (Stretch c.before.before.before.args.plant c.before.before.before.args.from c.before.before.before.args.to)
@@ -51,11 +51,11 @@ of_stretch c key l =
     let x = start.args.concentrations in
     same_candidates p x (Stretch p start.args.from start.args.to) (Visited p (spot_place p.tank start.args.from) (spot_place p.tank start.args.to)) key
     (stretch_visited p start.args.from start.args.to)
-    (subst (λ (a : Spot). LeastKey p x (Visited p (tank_place a.fraction a.tank) (spot_place p.tank start.args.to)) key) first.spot-at.ensures
-    (subst (λ (b : Spot). LeastKey p x (Visited p (tank_place first.spot-at.result.fraction first.spot-at.result.tank) (tank_place b.fraction b.tank)) key) c.spot-at2.ensures l))
+    (subst (λ (a : Spot). LeastKey p x (Visited p (tank_place a.fraction a.tank) (spot_place p.tank start.args.to)) key) first.spot_at-first.ensures
+    (subst (λ (b : Spot). LeastKey p x (Visited p (tank_place first.spot_at-first.result.fraction first.spot_at-first.result.tank) (tank_place b.fraction b.tank)) key) c.spot_at-past.ensures l))
 
-returns : tie.Need-returns
-returns c =
+returns-then-not-any_covered : tie.Need-returns-then-not-any_covered
+returns-then-not-any_covered c =
     let asked = c.before in
     let least = asked.before in
     let past = least.before in
@@ -63,19 +63,19 @@ returns c =
     let start = first.before.before in
     let p = start.args.plant in
     let x = start.args.concentrations in
-    let none : NoneCovered p x first.spot-at.result.fraction (min past.spot-at2.result.fraction most_fraction + 1) =
-    subst (λ (n : ℕ). NoneCovered p x first.spot-at.result.fraction (n + 1)) least.smaller.ensures (asked.any-covered.ensures (not-true _ c.if1.true)) in
+    let none : NoneCovered p x first.spot_at-first.result.fraction (min past.spot_at-past.result.fraction most_fraction + 1) =
+    subst (λ (n : ℕ). NoneCovered p x first.spot_at-first.result.fraction (n + 1)) least.smaller-last.ensures (asked.any_covered.ensures (c.if-not-any_covered.true)) in
     of_stretch past none_yet
     (uncovered p x start.requires.0 start.requires.1 _ _
     (λ y v.
-    let b = between_fractions p first.spot-at.result past.spot-at2.result (in_order past) y v in
+    let b = between_fractions p first.spot_at-first.result past.spot_at-past.result (in_order past) y v in
     none y.fraction b.0 b.1))
 
-tanks-requires : tie.Need-tanks-requires
-tanks-requires c κs =
+tanks-table-requires : tie.Need-tanks-table-requires
+tanks-table-requires c κs =
     let settled = c.before in
     let start = settled.before.before.before.before.before.before.before in
-    (start.requires.0, omega (arith, c.largest-return-ratio.ensures.1), settled.bottoms.ensures)
+    (start.requires.0, omega (arith, c.largest_return_ratio-last.ensures.1), settled.bottoms-bottoms.ensures)
 
 between-requires : tie.Need-between-requires
 between-requires c κs =
@@ -85,13 +85,13 @@ between-requires c κs =
     let start = seasons.before in (
       start.requires.0,
       start.requires.1,
-      seasons.seasons-of.ensures,
-      rw (sym filled.before.largest-return-ratio.ensures.0) filled.tanks.ensures,
+      seasons.seasons_of-seasons.ensures,
+      rw (sym filled.before.largest_return_ratio-last.ensures.0) filled.tanks-table.ensures,
       in_order past,
     )
 
-returns-2 : tie.Need-returns-2
-returns-2 c =
+returns : tie.Need-returns
+returns c =
     let past = c.before.before.before.before.before.before.before.before in
     of_stretch past c.between.result c.between.ensures
 
@@ -100,14 +100,14 @@ stretch_spec =
     tie.close
     (tie.spec
     (λ c κs. search rules)
-    spot-at-requires
-    spot-at-requires-2
+    spot_at-first-requires
+    spot_at-past-requires
     (λ c κs. search rules)
-    any-covered-requires
-    returns
+    any_covered-requires
+    returns-then-not-any_covered
     (λ c κs. search rules)
     (λ c κs. search rules)
-    tanks-requires
+    tanks-table-requires
     (λ c. search rules)
     between-requires
-    returns-2)
+    returns)

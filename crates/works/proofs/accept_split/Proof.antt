@@ -4,13 +4,13 @@ use Rattle.rules.specs.Accepting.{accept_by, accept}
 use Rattle.works.proofs.accept_split.Statement.{statement}
 use Rattle.works.proofs.accept_split.Tie as tie
 
-returns : tie.Need-returns
+returns-then-valid : tie.Need-returns-then-valid
 unfolding accept_by accept
-returns c = rw c.before.if1.true c.accept.ensures
+returns-then-valid c = rw c.before.if-valid.true c.accept.ensures
 
-returns-2 : tie.Need-returns-2
+returns : tie.Need-returns
 unfolding accept_by
-returns-2 c = rw c.if1.false
+returns c = rw c.if-valid.false
 
 pub accept_split_spec : {M : Type 1} → statement M
-accept_split_spec = tie.close (tie.spec (λ c κs. search rules) returns returns-2)
+accept_split_spec = tie.close (tie.spec (λ c κs. search rules) returns-then-valid returns)

@@ -6,17 +6,17 @@ use Rattle.works.specs.Entries.{sums_with}
 use Rattle.works.proofs.added.Statement.{statement}
 use Rattle.works.proofs.added.Tie as tie
 
-add-t8 : tie.Need-overflow-add-t8
-add-t8 c = let start = c.before.before.before.before.before.before.before.before.before.before in omega (arith, start.requires.1.settling, start.requires.2.settling)
+overflow_add-result-5 : tie.Need-overflow_add-result-5
+overflow_add-result-5 c = let start = c.before.before.before.before.before.before.before.before.before.before in omega (arith, start.requires.1.settling, start.requires.2.settling)
 
-add-t9 : tie.Need-overflow-add-t9
-add-t9 c = let start = c.before.before.before.before.before.before.before.before.before.before.before.before in omega (arith, start.requires.1.total, start.requires.2.total)
+overflow_add-result-6 : tie.Need-overflow_add-result-6
+overflow_add-result-6 c = let start = c.before.before.before.before.before.before.before.before.before.before.before.before in omega (arith, start.requires.1.total, start.requires.2.total)
 
-add-t10 : tie.Need-overflow-add-t10
-add-t10 c = let start = c.before.before.before.before.before.before.before.before.before.before.before.before.before.before in omega (arith, start.requires.1.oxygen, start.requires.2.oxygen)
+overflow_add-result-7 : tie.Need-overflow_add-result-7
+overflow_add-result-7 c = let start = c.before.before.before.before.before.before.before.before.before.before.before.before.before.before in omega (arith, start.requires.1.oxygen, start.requires.2.oxygen)
 
-add-t11 : tie.Need-overflow-add-t11
-add-t11 c = let start = c.before.before.before.before.before.before.before.before.before.before.before.before.before.before.before.before in omega (arith, start.requires.1.transfer, start.requires.2.transfer)
+overflow_add-result-8 : tie.Need-overflow_add-result-8
+overflow_add-result-8 c = let start = c.before.before.before.before.before.before.before.before.before.before.before.before.before.before.before.before in omega (arith, start.requires.1.transfer, start.requires.2.transfer)
 
 returns : tie.Need-returns
 unfolding sums_with
@@ -36,4 +36,4 @@ returns c =
     )
 
 pub added_spec : {M : Type 1} → statement M
-added_spec = tie.close (tie.spec (λ c. search rules) (λ c. search rules) (λ c. search rules) (λ c. search rules) add-t8 add-t9 add-t10 add-t11 returns)
+added_spec = tie.close (tie.spec (λ c. search rules) (λ c. search rules) (λ c. search rules) (λ c. search rules) overflow_add-result-5 overflow_add-result-6 overflow_add-result-7 overflow_add-result-8 returns)

@@ -4,13 +4,13 @@ use Rattle.rules.specs.Answers.{answer_sheet}
 use Rattle.works.proofs.answer_sheet.Statement.{statement}
 use Rattle.works.proofs.answer_sheet.Tie as tie
 
-returns : tie.Need-returns
+returns-in-Designed : tie.Need-returns-in-Designed
 unfolding answer_sheet
-returns c = rw c.before.answer.given.1
+returns-in-Designed c = rw c.in-Designed.is
 
-returns-2 : tie.Need-returns-2
+returns-in-Refused : tie.Need-returns-in-Refused
 unfolding answer_sheet
-returns-2 c = rw c.before.enum_told.given.1 c.empty-sheet.ensures
+returns-in-Refused c = rw c.in-Refused.is c.empty_sheet.ensures
 
 pub answer_sheet_spec : {M : Type 1} → statement M
-answer_sheet_spec = tie.close (tie.spec (λ c. search rules) (λ c. search rules) (λ c κs. search rules) returns returns-2)
+answer_sheet_spec = tie.close (tie.spec (λ c. search rules) (λ c. search rules) (λ c κs. search rules) returns-in-Designed returns-in-Refused)

@@ -4,13 +4,13 @@ use Rattle.rules.specs.Works.{answer_verdict}
 use Rattle.works.proofs.answer_verdict.Statement.{statement}
 use Rattle.works.proofs.answer_verdict.Tie as tie
 
-returns : tie.Need-returns
+returns-in-Designed : tie.Need-returns-in-Designed
 unfolding answer_verdict
-returns c = rw c.enum_told.given.1
+returns-in-Designed c = rw c.in-Designed.is
 
-returns-2 : tie.Need-returns-2
+returns-in-Refused : tie.Need-returns-in-Refused
 unfolding answer_verdict
-returns-2 c = rw c.before.answer.given.1
+returns-in-Refused c = rw c.in-Refused.is
 
 pub answer_verdict_spec : {M : Type 1} → statement M
-answer_verdict_spec = tie.close (tie.spec (λ c. search rules) (λ c. search rules) returns returns-2)
+answer_verdict_spec = tie.close (tie.spec (λ c. search rules) (λ c. search rules) returns-in-Designed returns-in-Refused)

@@ -68,16 +68,16 @@ store-requires c κs =
     let size : length start.args.figures.now ≡ 128 = start.requires.1 in
     omega arith
 
-store-requires-2 : tie.Need-store-requires-2 invariant-line decreases-line
-store-requires-2 c κs =
+store-requires-in-line : tie.Need-store-requires-in-line invariant-line decreases-line
+store-requires-in-line c κs =
     let made = c.before.before in
     let inside = made.before.before in
     let head = inside.before in
     let stored = head.before.before.before in
     let start = stored.before.before.before.before.before.before in
     let size : length start.args.figures.now ≡ 128 = start.requires.1 in
-    let summed : length stored.store.new.0 ≡ length start.args.figures.now = simp length-sets at (ap length stored.store.ensures) in
-    let row : length made.figures2.result ≡ 15 = ap length made.figures2.ensures ∙ fifteen _ in
+    let summed : length stored.store.new.list ≡ length start.args.figures.now = simp length-sets at (ap length stored.store.ensures) in
+    let row : length made.figures-row.result ≡ 15 = ap length made.figures-row.ensures ∙ fifteen _ in
     omega (arith, head.line.invariant.1, inside.line-test.true)
 
 line-again : tie.Need-line-preserved invariant-line decreases-line
@@ -91,7 +91,7 @@ line-again c =
     let sheets = start.args.works.sheets in
     let size : length sheets ≡ most_lines = start.requires.0 in
     let below : head.line.i < length sheets = omega (arith, inside.line-test.true) in
-    let left = next sheets head.line.figures stored2.store2.new.0 head.line.i below (stored2.store2.ensures ∙ ap (sets head.line.figures (8 + 15 * head.line.i)) made.figures2.ensures) in
+    let left = next sheets head.line.figures stored2.store-in-line.new.list head.line.i below (stored2.store-in-line.ensures ∙ ap (sets head.line.figures (8 + 15 * head.line.i)) made.figures-row.ensures) in
     (omega (arith, inside.line-test.true), search rules, left ∙ head.line.invariant.2)
 
 returns : tie.Need-returns invariant-line decreases-line
@@ -101,7 +101,7 @@ returns c =
     let stored = head.before.before.before in
     let start = stored.before.before.before.before.before.before in
     let full = chunks_stored sheet_figures start.args.works.sheets head.line.figures _ (8 + 15 * head.line.i) head.line.i (omega (arith, start.requires.0, c.line-test.false)) head.line.invariant.2 in
-    whole start.args.works start.args.figures.now stored.store.new.0 head.line.figures start.requires.0 start.requires.1 stored.store.ensures full
+    whole start.args.works start.args.figures.now stored.store.new.list head.line.figures start.requires.0 start.requires.1 stored.store.ensures full
 
 pub figures_spec : {M : Type 1} → statement M
 figures_spec =
@@ -118,7 +118,7 @@ figures_spec =
     (λ c. search rules)
     (λ c. search rules)
     (λ c. search rules)
-    store-requires-2
+    store-requires-in-line
     (λ c. search rules)
     (λ c. search rules)
     line-again

@@ -26,7 +26,7 @@ unfolding first_refused empty_sheet
 line-again c =
     let head = c.before.before.before.before in
     let more : head.line.i + 1 ≡ suc head.line.i = add-one head.line.i in
-    (omega arith, rw more (c.after.ensures ∙ ap₂ after head.line.invariant.1 c.before.answer-verdict.ensures))
+    (omega arith, rw more (c.after-verdict.ensures ∙ ap₂ after head.line.invariant.1 c.before.answer_verdict.ensures))
 
 returns : tie.Need-returns invariant-line decreases-line
 returns c =

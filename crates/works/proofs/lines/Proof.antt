@@ -18,11 +18,11 @@ decreases-line plant concentrations split count answers₀ i₀ answers i = coun
 line-holds : tie.Need-line-init invariant-line decreases-line
 line-holds c = (omega arith, lines_none c.args.plant c.args.concentrations c.args.split _)
 
-line-answer-requires : tie.Need-line-answer-requires invariant-line decreases-line
-line-answer-requires c κs = let start = c.before.before in (start.requires.0, start.requires.1, start.requires.2, c.line-test.true)
+line_answer-requires : tie.Need-line_answer-requires invariant-line decreases-line
+line_answer-requires c κs = let start = c.before.before in (start.requires.0, start.requires.1, start.requires.2, c.line-test.true)
 
-array-set-from-answers : tie.Need-array-set-from-answers invariant-line decreases-line
-array-set-from-answers c =
+bounds-answers-i : tie.Need-bounds-answers-i invariant-line decreases-line
+bounds-answers-i c =
     let inside = c.before in
     let start = inside.before.before in
     omega (arith, (valid_split start.args.split start.requires.2).lines, inside.line-test.true)
@@ -34,7 +34,7 @@ line-again c =
     let start = head.before in
     let few = (valid_split start.args.split start.requires.2).lines in (
       omega (arith, inside.line-test.true),
-      lines_next start.args.plant start.args.concentrations start.args.split head.line.i c.line-answer.result head.line.answers (omega (arith, few, inside.line-test.true)) c.line-answer.ensures head.line.invariant.1,
+      lines_next start.args.plant start.args.concentrations start.args.split head.line.i c.line_answer.result head.line.answers (omega (arith, few, inside.line-test.true)) c.line_answer.ensures head.line.invariant.1,
     )
 
 returns : tie.Need-returns invariant-line decreases-line
@@ -51,10 +51,10 @@ lines_spec =
     invariant-line
     decreases-line
     line-holds
-    line-answer-requires
+    line_answer-requires
     (λ c. search rules)
     (λ c. search rules)
-    array-set-from-answers
+    bounds-answers-i
     (λ c. search rules)
     (λ c. search rules)
     line-again

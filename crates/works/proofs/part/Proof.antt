@@ -6,19 +6,19 @@ use native.Mathlib.Omega.{arith}
 use Rattle.works.proofs.part.Statement.{statement}
 use Rattle.works.proofs.part.Tie as tie
 
-mul-result : tie.Need-overflow-mul-result
-mul-result c = record { fits = omega (arith, mul-le-mul c.requires.0 c.requires.2) }
+overflow_mul-result : tie.Need-overflow_mul-result
+overflow_mul-result c = record { fits = omega (arith, mul-le-mul c.requires.0 c.requires.2) }
 
-mul-result-2 : tie.Need-overflow-mul-result-2
-mul-result-2 c =
+overflow_mul-result-2 : tie.Need-overflow_mul-result-2
+overflow_mul-result-2 c =
     let before : c.args.before ≤ 1000 = omega arith in
     record { fits = omega (arith, mul-le-mul c.requires.0 before) }
 
-sub-result : tie.Need-overflow-sub-result
-sub-result c = omega (arith, mul-le-mul_left c.args.whole c.requires.1)
+overflow_sub-result : tie.Need-overflow_sub-result
+overflow_sub-result c = omega (arith, mul-le-mul_left c.args.whole c.requires.1)
 
-cast-result : tie.Need-overflow-cast-result
-cast-result c = omega (arith, mul-le-mul c.requires.0 c.requires.2)
+overflow_cast-result-3 : tie.Need-overflow_cast-result-3
+overflow_cast-result-3 c = omega (arith, mul-le-mul c.requires.0 c.requires.2)
 
 pub part_spec : {M : Type 1} → statement M
-part_spec = tie.close (tie.spec mul-result mul-result-2 sub-result cast-result (λ c. search rules))
+part_spec = tie.close (tie.spec overflow_mul-result overflow_mul-result-2 overflow_sub-result overflow_cast-result-3 (λ c. search rules))

@@ -7,42 +7,42 @@ use Rattle.works.specs.Entries.{answer_at}
 use Rattle.works.proofs.put_together.Statement.{statement}
 use Rattle.works.proofs.put_together.Tie as tie
 
-first-refused-requires : tie.Need-first-refused-requires
-first-refused-requires c κs = c.requires.0
+first_refused-requires : tie.Need-first_refused-requires
+first_refused-requires c κs = c.requires.0
 
-sums-of-requires : tie.Need-sums-of-requires
-sums-of-requires c κs = c.before.before.before.requires
+sums_of-requires : tie.Need-sums_of-requires
+sums_of-requires c κs = c.requires
 
-sheets-of-requires : tie.Need-sheets-of-requires
-sheets-of-requires c κs = c.before.before.before.before.requires.0
+sheets_of-requires : tie.Need-sheets_of-requires
+sheets_of-requires c κs = c.requires.0
 
-returns : tie.Need-returns
+returns-in-Broken : tie.Need-returns-in-Broken
 unfolding works_of works_by
-returns c =
-    let known = c.before.before in
-    let first = known.before.before in
+returns-in-Broken c =
+    let known = c.before in
+    let first = known.before in
     let start = first.before in
-    c.refused-works.ensures
-    ∙ sym (ap (λ (v : Verdict). works_by v (answer_at start.args.answers) start.args.count) (sym first.first-refused.ensures ∙ known.refusal.given.1))
+    c.refused_works.ensures
+    ∙ sym (ap (λ (v : Verdict). works_by v (answer_at start.args.answers) start.args.count) (sym first.first_refused.ensures ∙ known.in-Broken.is))
 
-returns-2 : tie.Need-returns-2
+returns-in-Kept : tie.Need-returns-in-Kept
 unfolding works_of works_by
-returns-2 c =
-    let told = c.before.before in
-    let first = told.before.before in
+returns-in-Kept c =
+    let told = c.before in
+    let first = told.before in
     let start = first.before in
-    rw (c.before.sums-of.ensures, c.sheets-of.ensures)
-    (sym (ap (λ (v : Verdict). works_by v (answer_at start.args.answers) start.args.count) (sym first.first-refused.ensures ∙ told.enum_told.given.1)))
+    rw (c.sums_of.ensures, c.sheets_of.ensures)
+    (sym (ap (λ (v : Verdict). works_by v (answer_at start.args.answers) start.args.count) (sym first.first_refused.ensures ∙ told.in-Kept.is)))
 
 pub put_together_spec : {M : Type 1} → statement M
 put_together_spec =
     tie.close
     (tie.spec
-    first-refused-requires
+    first_refused-requires
     (λ c. search rules)
     (λ c κs. search rules)
     (λ c. search rules)
-    sums-of-requires
-    sheets-of-requires
-    returns
-    returns-2)
+    sums_of-requires
+    sheets_of-requires
+    returns-in-Broken
+    returns-in-Kept)

@@ -7,7 +7,7 @@ use Rattle.works.proofs.refused_works.Tie as tie
 
 returns : tie.Need-returns
 unfolding refused_works values_from
-returns c = rw (c.before.no-sums.ensures, c.empty-sheet.ensures)
+returns c = rw (c.before.no_sums.ensures, c.empty_sheet.ensures)
 
 pub refused_works_spec : {M : Type 1} → statement M
 refused_works_spec = tie.close (tie.spec (λ c κs. search rules) (λ c κs. search rules) returns)

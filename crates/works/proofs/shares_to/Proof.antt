@@ -24,7 +24,7 @@ line-again : tie.Need-line-preserved invariant-line decreases-line
 line-again c =
     let head = c.before.before in
     let g : ℕ → ℕ = λ k. get_or head.before.before.args.split.shares k 0 in
-    (omega arith, sum_grown g head.line.i head.line.sum c.wide.result head.line.invariant.1 c.wide.ensures.0, omega (arith, head.line.invariant.2, c.wide.ensures))
+    (omega arith, sum_grown g head.line.i head.line.sum c.wide-sum.result head.line.invariant.1 c.wide-sum.ensures.0, omega (arith, head.line.invariant.2, c.wide-sum.ensures))
 
 returns : tie.Need-returns invariant-line decreases-line
 unfolding shares_to

@@ -15,24 +15,24 @@ use Rattle.works.proofs.split_valid.Tie as tie
 few : (count : ℕ) → within 2 most_lines count ≡ true → count ≤ most_lines
 few count e = ((within_between 2 most_lines count).0 (subst T (sym e) tt)).most
 
-shares-positive-requires : tie.Need-shares-positive-requires
-shares-positive-requires c κs = few c.before.before.args.split.count (sym c.before.within.ensures ∙ c.if1.true)
+shares_positive-requires : tie.Need-shares_positive-requires
+shares_positive-requires c κs = few c.before.before.args.split.count (sym c.before.within.ensures ∙ c.if-within.true)
 
-shares-to-requires : tie.Need-shares-to-requires
-shares-to-requires c κs =
+shares_to-requires : tie.Need-shares_to-requires
+shares_to-requires c κs =
     let branch = c.before in
-    few branch.before.before.args.split.count (sym branch.before.within.ensures ∙ branch.if1.true)
+    few branch.before.before.args.split.count (sym branch.before.within.ensures ∙ branch.if-within.true)
+
+returns-then-within : tie.Need-returns-then-within
+unfolding split_valid
+returns-then-within c =
+    let branch = c.before.before in
+    let counted : within 2 most_lines branch.before.before.args.split.count ≡ true = sym branch.before.within.ensures ∙ branch.if-within.true in
+    rw counted (ap₂ ◌&&◌ c.before.shares_positive.ensures (rw c.shares_to.ensures.0))
 
 returns : tie.Need-returns
 unfolding split_valid
-returns c =
-    let branch = c.before.before in
-    let counted : within 2 most_lines branch.before.before.args.split.count ≡ true = sym branch.before.within.ensures ∙ branch.if1.true in
-    rw counted (ap₂ ◌&&◌ c.before.shares-positive.ensures (rw c.shares-to.ensures.0))
-
-returns-2 : tie.Need-returns-2
-unfolding split_valid
-returns-2 c = rw (sym c.before.within.ensures ∙ c.if1.false)
+returns c = rw (sym c.before.within.ensures ∙ c.if-within.false)
 
 pub split_valid_spec : {M : Type 1} → statement M
-split_valid_spec = tie.close (tie.spec (λ c κs. search rules) shares-positive-requires shares-to-requires returns returns-2)
+split_valid_spec = tie.close (tie.spec (λ c κs. search rules) shares_positive-requires shares_to-requires returns-then-within returns)

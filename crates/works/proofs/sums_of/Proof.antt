@@ -20,19 +20,19 @@ decreases-line count answers sums₀ i₀ sums i = count - i
 line-holds : tie.Need-line-init invariant-line decreases-line
 line-holds c = (
   omega arith,
-  c.no-sums.ensures ∙ sums_none (answer_at c.before.args.t1),
-  subst (SumsBounds 0) (sym c.no-sums.ensures) none_bounds,
+  c.no_sums-sums.ensures ∙ sums_none (answer_at c.before.args.t1),
+  subst (SumsBounds 0) (sym c.no_sums-sums.ensures) none_bounds,
 )
 
-added-requires : tie.Need-added-requires invariant-line decreases-line
+added-sums-requires : tie.Need-added-sums-requires invariant-line decreases-line
 unfolding empty_sheet
-added-requires c κs =
+added-sums-requires c κs =
     let inside = c.before.before in
     let head = inside.before in
     let start = head.before.before in (
       omega (arith, start.requires.0, inside.line-test.true),
       head.line.invariant.2,
-      subst SheetBounds (sym c.answer-sheet.ensures) (start.requires.1 head.line.i inside.line-test.true),
+      subst SheetBounds (sym c.answer_sheet.ensures) (start.requires.1 head.line.i inside.line-test.true),
     )
 
 line-again : tie.Need-line-preserved invariant-line decreases-line
@@ -43,9 +43,9 @@ line-again c =
     let head = inside.before in
     let answers = head.before.before.args.t1 in (
       omega (arith, inside.line-test.true),
-      c.added.ensures.0
-          ∙ (ap (sums_with head.line.sums) made.answer-sheet.ensures ∙ sums_next (answer_at answers) head.line.i head.line.sums head.line.invariant.1),
-      c.added.ensures.1,
+      c.added-sums.ensures.0
+          ∙ (ap (sums_with head.line.sums) made.answer_sheet.ensures ∙ sums_next (answer_at answers) head.line.i head.line.sums head.line.invariant.1),
+      c.added-sums.ensures.1,
     )
 
 returns : tie.Need-returns invariant-line decreases-line
@@ -67,7 +67,7 @@ sums_of_spec =
     (λ c. search rules)
     (λ c κs. search rules)
     (λ c. search rules)
-    added-requires
+    added-sums-requires
     (λ c. search rules)
     (λ c. search rules)
     line-again

@@ -5,13 +5,13 @@ use Rattle.sweeping.specs.Sweeps.{started, start_by}
 use Rattle.sweeping.proofs.Sweep.new.Statement.{statement}
 use Rattle.sweeping.proofs.Sweep.new.Tie as tie
 
-returns : tie.Need-returns
+returns-in-Refused : tie.Need-returns-in-Refused
 unfolding started start_by
-returns c = rw (sym c.before.before.before.accept.ensures ∙ c.before.refusal.given.1)
+returns-in-Refused c = rw (sym c.accept.ensures ∙ c.in-Refused.is)
 
-returns-2 : tie.Need-returns-2
+returns-in-Accepted : tie.Need-returns-in-Accepted
 unfolding started start_by
-returns-2 c = rw (sym c.before.before.accept.ensures ∙ c.enum_told.given.1)
+returns-in-Accepted c = rw (sym c.accept.ensures ∙ c.in-Accepted.is)
 
 pub new_spec : {M : Type 1} → statement M
-new_spec = tie.close (tie.spec (λ c κs. search rules) (λ c. search rules) (λ c. search rules) returns returns-2)
+new_spec = tie.close (tie.spec (λ c κs. search rules) (λ c. search rules) (λ c. search rules) returns-in-Refused returns-in-Accepted)
