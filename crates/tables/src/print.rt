@@ -4,73 +4,103 @@ ghost use Rattle.tables.specs.Values.{agrees};
 
 use crate::Row;
 use crate::values::DAYS;
-use libc::STDOUT_FILENO;
+use std::io;
+use std::io::Write;
+use std::rt::Stdout;
 
-pub(crate) fn text(bytes: &[u8]) {
-    io::write_all(STDOUT_FILENO, bytes);
+// Standard output, and whether all that was printed has been written: after a write that fails nothing more is.
+#[derive(Drop)]
+pub(crate) struct Output {
+    stdout: Stdout,
+    written: io::Result<()>,
+}
+
+impl Output {
+    pub(crate) fn new(stdout: Stdout) -> Output {
+        Output {
+            stdout,
+            written: Ok(()),
+        }
+    }
+
+    pub(crate) fn finish(self) -> io::Result<()> {
+        self.written
+    }
+}
+
+pub(crate) fn text(out: &mut Output, bytes: &[u8]) {
+    if out.written.is_ok() {
+        out.written = out.stdout.write_all(bytes);
+    }
+}
+
+fn decimal(out: &mut Output, n: u64) {
+    if out.written.is_ok() {
+        out.written = write!(out.stdout, "{n}");
+    }
 }
 
 // A whole number of up to four digits in seven places.
-pub(crate) fn whole(n: u64) {
+pub(crate) fn whole(out: &mut Output, n: u64) {
     match n {
-        0..=9 => text(b"      "),
-        10..=99 => text(b"     "),
-        100..=999 => text(b"    "),
-        _ => text(b"   "),
+        0..=9 => text(out, b"      "),
+        10..=99 => text(out, b"     "),
+        100..=999 => text(out, b"    "),
+        _ => text(out, b"   "),
     }
-    io::print_decimal(STDOUT_FILENO, n);
+    decimal(out, n);
 }
 
 // A number of tenths, with its point.
-pub(crate) fn tenths(n: u64) {
-    whole(n / 10);
-    text(b".");
-    io::print_decimal(STDOUT_FILENO, n % 10);
+pub(crate) fn tenths(out: &mut Output, n: u64) {
+    whole(out, n / 10);
+    text(out, b".");
+    decimal(out, n % 10);
 }
 
 // A number of hundredths, with its point.
-pub(crate) fn hundredths(n: u64) {
-    tenths(n / 10);
-    io::print_decimal(STDOUT_FILENO, n % 10);
+pub(crate) fn hundredths(out: &mut Output, n: u64) {
+    tenths(out, n / 10);
+    decimal(out, n % 10);
 }
 
 // What a value is for, the value computed, and the value printed.
-pub(crate) fn line(row: Row, column: usize, computed: u64, printed: u64)
+pub(crate) fn line(out: &mut Output, row: Row, column: usize, computed: u64, printed: u64)
     requires { column < 6 }
 {
     match row {
         Row::Age(load, temperature) => {
-            whole(load);
-            whole(temperature);
-            tenths(2 + column as u64);
-            tenths(computed);
-            tenths(printed);
+            whole(out, load);
+            whole(out, temperature);
+            tenths(out, 2 + column as u64);
+            tenths(out, computed);
+            tenths(out, printed);
             return;
         }
-        Row::Production(ratio) => tenths(ratio),
-        Row::Consumption(temperature) => whole(temperature),
+        Row::Production(ratio) => tenths(out, ratio),
+        Row::Consumption(temperature) => whole(out, temperature),
     }
-    whole(DAYS[column]);
-    hundredths(computed);
-    hundredths(printed);
+    whole(out, DAYS[column]);
+    hundredths(out, computed);
+    hundredths(out, printed);
 }
 
 // Ends a line with whether its two values agree; gives 1 where they do, else 0.
-pub(crate) fn verdict(computed: u64, printed: u64) -> u64
+pub(crate) fn verdict(out: &mut Output, computed: u64, printed: u64) -> u64
     ensures { (result ≡ agrees computed printed) × (result ≤ 1) }
 {
     if computed == printed {
-        text(b"  agrees\n");
+        text(out, b"  agrees\n");
         return 1;
     }
-    text(b"  differs\n");
+    text(out, b"  differs\n");
     0
 }
 
 // Ends a table with how many of its values agree.
-pub(crate) fn agreed(count: u64, all: u64) {
-    io::print_decimal(STDOUT_FILENO, count);
-    text(b" of ");
-    io::print_decimal(STDOUT_FILENO, all);
-    text(b" agree\n");
+pub(crate) fn agreed(out: &mut Output, count: u64, all: u64) {
+    decimal(out, count);
+    text(out, b" of ");
+    decimal(out, all);
+    text(out, b" agree\n");
 }

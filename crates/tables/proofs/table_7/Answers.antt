@@ -1,0 +1,8 @@
+-- `table_7` meets its contract: the rows' counts by computation. Assumes nothing.
+use Rattle.rules.specs.AgeNitrate.{per_degree, decay, corrected_age, capacity_uptake}
+use Rattle.tables.specs.Values.{agrees, agreeing}
+use Rattle.tables.proofs.table_7.Goals as goal
+
+pub returns : goal.returns
+unfolding per_degree decay corrected_age capacity_uptake agrees agreeing
+returns c = rw (c.print_row-5.ensures.0, c.print_row-4.ensures.0, c.print_row-3.ensures.0, c.print_row-2.ensures.0, c.print_row.ensures.0)
