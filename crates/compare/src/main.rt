@@ -1,15 +1,16 @@
 // Answers records from standard input by the calls for C, at most 10,000 of them, and prints what each call gives. A record is
 // a header of three words, an operation (0 to examine, 1 to choose, 2 for existing tanks, 3 and 4 for the price of the design chosen and of
-// a candidate), a page's length and a request's, and then the request.
+// a candidate), a page's length and a request's, and then the request. A read or a write that fails ends the program with its error.
 #![tactic(auto)]
 
-ghost use Rattle.std.specs.Prelude.{◌≡◌, ◌≤◌, length};
+ghost use Rattle.std.specs.Prelude.{◌≡◌, ◌≤◌, length, IfOk};
 ghost use Rattle.request.specs.Frames.{longest_request};
 ghost use Rattle.putting.specs.Outcomes.{outcome};
 ghost use Rattle.compare.specs.Records.{header_of, Call, Answers};
 
-use libc::{STDIN_FILENO, STDOUT_FILENO};
 use request::LONGEST_REQUEST;
+use std::io;
+use std::io::{Read, Write};
 
 // What a record asks for.
 #[derive(Clone, Copy)]
@@ -107,59 +108,83 @@ fn answer(operation: Operation, request: &[u8], page: &mut [u8], room: usize) ->
     }
 }
 
+// Fills the buffer from the input, and stops early where the input ends. Gives how many bytes were read.
+fn read_full(input: &mut impl Read, buffer: &mut [u8]) -> io::Result<usize>
+    ensures { IfOk result (λ count. count ≤ length buffer.new) }
+{
+    let mut count = 0;
+    while count < buffer.len() {
+        let got = input.read(&mut buffer[count..])?;
+        if got == 0 {
+            break;
+        }
+        count += got;
+    }
+    Ok(count)
+}
+
 // Reads the request that a header announces, answers it and prints the answer. Says whether the request was whole.
-fn respond(operation: Operation, length: usize, room: usize) -> bool
+fn respond(
+    input: &mut impl Read,
+    output: &mut impl Write,
+    operation: Operation,
+    length: usize,
+    room: usize,
+) -> io::Result<bool>
     requires { (length ≤ longest_request) × (room ≤ 512) }
 {
     let mut request = [0u8; LONGEST_REQUEST];
-    if io::read_full(STDIN_FILENO, &mut request[..length]) != length {
-        return false;
+    if read_full(input, &mut request[..length])? != length {
+        return Ok(false);
     }
     let mut page = [0u8; 512];
     let reply = answer(operation, &request[..length], &mut page, room);
+    let number = reply.number;
     let written = reply.written;
-    io::print_decimal(STDOUT_FILENO, reply.number as u64);
-    io::write_all(STDOUT_FILENO, b" ");
-    io::print_decimal(STDOUT_FILENO, written as u64);
-    io::write_all(STDOUT_FILENO, b"\n");
-    io::write_all(STDOUT_FILENO, &page[..written]);
-    true
+    writeln!(output, "{number} {written}")?;
+    output.write_all(&page[..written])?;
+    Ok(true)
 }
 
 // Responds to a record by its header. Says whether it was a whole and good record.
-fn take_record(bytes: &[u8; 12]) -> bool {
+fn take_record(
+    input: &mut impl Read,
+    output: &mut impl Write,
+    bytes: &[u8; 12],
+) -> io::Result<bool> {
     match decode_header(bytes) {
         Header::Record {
             operation,
             length,
             room,
-        } => respond(operation, length, room),
-        Header::Bad => false,
+        } => respond(input, output, operation, length, room),
+        Header::Bad => Ok(false),
     }
 }
 
 // Takes the next record, and says whether there may be another: not after the end of the input, nor after a bad record.
-fn next_record() -> bool {
+fn next_record(input: &mut impl Read, output: &mut impl Write) -> io::Result<bool> {
     let mut bytes = [0u8; 12];
-    let got = io::read_full(STDIN_FILENO, &mut bytes);
+    let got = read_full(input, &mut bytes)?;
     if got == 0 {
-        return false;
+        return Ok(false);
     }
     if got == 12 {
-        if take_record(&bytes) {
-            return true;
+        if take_record(input, output, &bytes)? {
+            return Ok(true);
         }
     }
-    io::write_all(STDOUT_FILENO, b"bad record\n");
-    false
+    output.write_all(b"bad record\n")?;
+    Ok(false)
 }
 
-fn main() {
-    let mut left: u32 = 10_000;
-    'record: while 0 < left {
-        if !next_record() {
-            return;
+fn main(rt: HostRuntime) -> io::Result<()> {
+    let mut input = rt.stdin();
+    let mut output = rt.stdout();
+    for _ in 0..10_000 {
+        if !next_record(&mut input, &mut output)? {
+            break;
         }
-        left -= 1;
     }
+    Ok(())
 }

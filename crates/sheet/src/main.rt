@@ -11,6 +11,8 @@ use rules::{
     Candidate, Consent, Date, Plant, Precipitant, PrimarySettling, Process, Reading, Readings,
     Removal, TankFlow, Term, Way, Written,
 };
+use std::io;
+use std::io::Write;
 
 // A consent without terms.
 fn consent() -> Consent
@@ -91,12 +93,10 @@ fn write_sheet(page: &mut [u8]) -> Written
     pewgull::write(pewgull::examine(plant(), readings(), candidate()), page)
 }
 
-fn main() {
+fn main(rt: HostRuntime) -> io::Result<()> {
     let mut page = [0u8; 512];
     match write_sheet(&mut page) {
-        Written::Bytes(count) => {
-            io::write_all(1, &page[..count]);
-        }
-        Written::Refused(_) => {}
+        Written::Bytes(count) => rt.stdout().write_all(&page[..count]),
+        Written::Refused(_) => Ok(()),
     }
 }

@@ -89,7 +89,8 @@ pub(crate) fn line(out: &mut Output, row: Row, column: usize, computed: u64, pri
 pub(crate) fn verdict(out: &mut Output, computed: u64, printed: u64) -> u64
     ensures { (result ≡ agrees computed printed) × (result ≤ 1) }
 {
-    if computed == printed {
+    let same = computed == printed;
+    if same {
         text(out, b"  agrees\n");
         return 1;
     }
