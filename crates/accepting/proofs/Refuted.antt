@@ -17,7 +17,6 @@ use Rattle.rules.specs.Consent.{consent_valid}
 use Rattle.rules.specs.Accepting.{values_of, readings_rules, bulking_rule, terms_rule, accept_by, accept}
 use Rattle.rules.specs.Answers.{acceptance_number}
 use Rattle.rules.specs.OtherSteps.{with_index}
-use Rattle.rules.specs.Cases
 use Rattle.rules.specs.Cases.{variant, case_a, f32}
 use Rattle.rules.specs.declared.Plant.{Plant}
 use Rattle.rules.specs.declared.Process.{Process}

@@ -1,5 +1,5 @@
 -- Limits of the figures from COD for accepted data: each from the limit of the product that it rounds. Assumes nothing.
-use Prim.Native.Nat.{ℕ, ◌+◌, ◌-◌, ◌*◌, ◌≤◌, ◌<◌}
+use Prim.Native.Nat.{ℕ, ◌+◌, ◌*◌, ◌≤◌, ◌<◌}
 use mathlib.Core.Bool.{Bool, true, false, cond}
 use lib.Dec.{leb}
 use native.Mathlib.Nat.{mul-le-mul, div-le_of_le-mul}

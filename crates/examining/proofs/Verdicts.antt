@@ -1,7 +1,6 @@
 -- Each exit of examining, over plain values: what the tests on the way there make of the definition. Assumes nothing.
 use mathlib.Core.Path.{◌≡◌, ap, sym, ◌∙◌}
 use mathlib.Core.Bool.{true, false}
-use mathlib.Core.List.{◌++◌}
 use lib.Dec.{T}
 use Rattle.rules.specs.Rules.{verdict, after}
 use Rattle.rules.specs.AgeNitrate.{on_grid}

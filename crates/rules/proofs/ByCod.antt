@@ -2,7 +2,7 @@
 -- those. Assumes nothing.
 use mathlib.Core.Path.{◌≡◌, ap, sym, ◌∙◌}
 use mathlib.Core.Bool.{not}
-use mathlib.Core.List.{List, [], ◌∷◌, ◌++◌}
+use mathlib.Core.List.{[], ◌∷◌, ◌++◌}
 use lib.Dec.{T}
 use Rattle.rules.specs.Rules.{rule, verdict}
 use Rattle.rules.specs.PlantData.{plant_in_range}
@@ -14,7 +14,6 @@ use Rattle.rules.specs.declared.Way.{Way}
 use Rattle.rules.specs.declared.Readings.{Readings}
 use Rattle.rules.specs.declared.Refusal.{Refusal}
 use Rattle.rules.specs.declared.Verdict.{Verdict}
-use Rattle.rules.specs.declared.Acceptance.{Acceptance}
 use Rattle.rules.proofs.RuleLists.{numbered, broken_verdict, first_broken_among}
 use Rattle.rules.proofs.AcceptedData.{data_refused_when_due}
 

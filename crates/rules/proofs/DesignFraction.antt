@@ -10,10 +10,9 @@ use lib.Dec.{T}
 use Rattle.rules.specs.Rounding.{up}
 use Rattle.rules.specs.Limits.{least_fraction}
 use Rattle.rules.specs.Consent.{date_valid}
-use Rattle.rules.specs.AgeNitrate.{safety_factor, aerobic_age, sludge_age, denitrified, covered}
+use Rattle.rules.specs.AgeNitrate.{safety_factor, aerobic_age, sludge_age, covered}
 use Rattle.rules.specs.ReactorSteps.{reactor_by, reactor_dosed, reactor_of}
 use Rattle.rules.specs.TermSteps.{aerobic_share, term_share, nitrifies, term_fraction, removes_from200, term_removes, term_denitrified, term_covered}
-use Rattle.rules.specs.Choosing.{grid}
 use Rattle.rules.specs.Ranges.{GridFraction}
 use Rattle.rules.specs.declared.Plant.{Plant}
 use Rattle.rules.specs.declared.Term.{Term}

@@ -4,7 +4,7 @@ use mathlib.Core.Logic.{◌↔◌}
 use mathlib.Core.Path.{◌≡◌, refl, ap, ap₂, sym, subst, ◌∙◌}
 use mathlib.Core.Bool.{Bool, true, false, ◌&&◌}
 use mathlib.Core.List.{List, [], ◌∷◌, ◌++◌}
-use Prim.Native.Nat.{◌+◌, ◌-◌, ◌≤◌}
+use Prim.Native.Nat.{◌≤◌}
 use native.Mathlib.Omega.{arith}
 use borrow.Author.Tests.{le-leb}
 use lib.Dec.{T}
@@ -14,7 +14,7 @@ use Rattle.rules.specs.Rules.{Rule, rule, verdict}
 use Rattle.rules.specs.PlantData.{within, plant_figures, figures_without_dose, plant_in_range}
 use Rattle.rules.specs.Consent.{date_valid, term_valid, terms_of, every, consent_valid}
 use Rattle.rules.specs.Accepting.{values_of, readings_rules, bulking_rule, data_rules, accept}
-use Rattle.rules.specs.AgeNitrate.{denitrified, covered, on_grid}
+use Rattle.rules.specs.AgeNitrate.{covered, on_grid}
 use Rattle.rules.specs.ReactorSteps.{sludge_production, reactor_by, reactor_dosed, reactor_of}
 use Rattle.rules.specs.SettlingSteps.{settling_of}
 use Rattle.rules.specs.AerationSteps.{aeration_by, aeration_saving, aeration_of}

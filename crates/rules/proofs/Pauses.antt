@@ -1,20 +1,19 @@
 -- What the pauses in aeration leave as it was. Assumes nothing.
-use mathlib.Core.Path.{◌≡◌, refl, ap, sym, ◌∙◌}
+use mathlib.Core.Path.{◌≡◌, refl, ap, ◌∙◌}
 use mathlib.Core.Bool.{false}
 use Prim.Native.Nat.{ℕ}
 use native.Mathlib.Omega.{arith}
 use Rattle.rules.specs.Rules.{verdict}
-use Rattle.rules.specs.Accepting.{accept_by, accept, values_of}
+use Rattle.rules.specs.Accepting.{accept, values_of}
 use Rattle.rules.specs.ReactorSteps.{reactor_of}
 use Rattle.rules.specs.SettlingSteps.{settling_of}
-use Rattle.rules.specs.AerationSteps.{denitrified_by_bod, oxygen_transfer, transfer_of, aeration_by, aeration_saving, aeration_of}
-use Rattle.rules.specs.Examining.{sheet_from, sheet_of, permitted, answer_by, examine, examination_rules}
-use Rattle.rules.specs.Choosing.{candidate_of, candidate_total, ChosenAccepted, Chosen}
-use Rattle.rules.specs.OtherSteps.{total_with, ChosenAcceptedWith, ChosenWith, SameAnswers}
+use Rattle.rules.specs.AerationSteps.{oxygen_transfer, transfer_of, aeration_by, aeration_saving, aeration_of}
+use Rattle.rules.specs.Examining.{sheet_from, sheet_of, permitted, answer_by, examination_rules}
+use Rattle.rules.specs.Choosing.{candidate_of, candidate_total, ChosenAccepted}
+use Rattle.rules.specs.OtherSteps.{total_with, ChosenAcceptedWith, SameAnswers}
 use Rattle.rules.specs.WithoutPauses.{aeration_without_pauses, sheet_without_pauses, steps_without_pauses, pauses, unpaused_sheet, unpaused, SameButTransfer}
 use Rattle.rules.specs.declared.Plant.{Plant}
 use Rattle.rules.specs.declared.Process.{Process}
-use Rattle.rules.specs.declared.Readings.{Readings}
 use Rattle.rules.specs.declared.Concentrations.{Concentrations}
 use Rattle.rules.specs.declared.Candidate.{Candidate}
 use Rattle.rules.specs.declared.Sheet.{Sheet}

@@ -11,7 +11,7 @@ use lib.Dec.{ltb}
 use lib.ListN.{length}
 use Rattle.rules.specs.Sums.{sum_from}
 use Rattle.rules.specs.Limits.{most_lines}
-use Rattle.rules.specs.Rules.{verdict, after}
+use Rattle.rules.specs.Rules.{after}
 use Rattle.rules.specs.Answers.{empty_sheet, answer_sheet}
 use Rattle.rules.specs.Examining.{total_of, sheet_from, sheet_of}
 use Rattle.rules.specs.Choosing.{candidate_of}

@@ -1,6 +1,6 @@
 -- The worked examples of docs/cod-way.md: Case A in the way by COD, with a COD and solids of its own and a dose. The theorem `cod_cases` in
 -- proofs/WorkedCodCases.antt proves the record. Assumes nothing.
-use Rattle.std.specs.Prelude.{ℕ, ◌+◌, ◌*◌, ◌≡◌, Bool, true, false, List, [], ◌∷◌}
+use Rattle.std.specs.Prelude.{ℕ, ◌+◌, ◌≡◌, true, false, List, [], ◌∷◌}
 use Rattle.rules.specs.CodBalance.{particulate_cod, inert_of_solids, inert_soluble, degradable_cod, dosed_cod, biomass_formed, inert_of_biomass, sludge_as_cod, inorganic_solids, carbon_sludge_by_cod, oxygen_by_cod, carbon_oxygen_by_cod, removed_by_oxygen}
 use Rattle.rules.specs.Examining.{examine}
 use Rattle.rules.specs.Answers.{answer_sheet, sheet_figures}

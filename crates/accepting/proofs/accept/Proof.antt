@@ -1,7 +1,6 @@
 -- `accepting::accept` meets its contract: where the plant data are in range, the daily flow is above 0. Assumes nothing.
 use borrow.Author.Rules.{rules}
 use mathlib.Core.Path.{sym, ◌∙◌}
-use borrow.Author.Tests.{not-true, not-false}
 use denote.Floats.{passes}
 use Rattle.rules.proofs.RangeFacts.{flow_least}
 use Rattle.accepting.proofs.Gathering.{out_of_range, index_too_high, in_range}

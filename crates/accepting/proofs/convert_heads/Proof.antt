@@ -4,7 +4,6 @@ use mathlib.Core.Path.{◌≡◌, sym, ◌∙◌}
 use mathlib.Core.Bool.{true}
 use Prim.Native.Nat.{◌*◌, ◌≤◌}
 use native.Mathlib.Omega.{arith}
-use borrow.Author.Tests.{not-true, not-false}
 use Rattle.rules.specs.PlantData.{within}
 use Rattle.accepting.proofs.Conversions.{heads_refused, heads_judged, heads_most}
 use Rattle.accepting.proofs.convert_heads.Statement.{statement}

@@ -1,5 +1,4 @@
 -- `verdict_number` meets its contract: each arm is the definition's. Assumes nothing.
-use borrow.Author.Rules.{rules}
 use mathlib.Core.Path.{sym, ap, ◌∙◌}
 use native.Mathlib.Omega.{arith}
 use Rattle.rules.specs.Answers.{verdict_number}

@@ -1,5 +1,4 @@
 -- `choose` meets its contract: a refusal of the data stands, accepted data are in range and the least design is chosen. Assumes nothing.
-use borrow.Author.Rules.{rules}
 use mathlib.Core.Path.{sym, ◌∙◌}
 use Rattle.rules.proofs.NitrateColumns.{chosen_with_columns}
 use Rattle.rules.proofs.AcceptedData.{accepted_ranges}

@@ -1,5 +1,4 @@
 -- `kept_mass` meets its contract: the two arms are the definition's two cases. Assumes nothing.
-use borrow.Author.Rules.{rules}
 use mathlib.Core.Path.{sym, ◌∙◌}
 use Rattle.rules.specs.declared.Verdict.{Verdict}
 use Rattle.choosing.proofs.Entries.{mass_by_lem}

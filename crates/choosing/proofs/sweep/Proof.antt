@@ -2,7 +2,7 @@
 -- fractions passed, of the return ratios passed in the present fraction, and of the thickening times passed in the
 -- present return ratio; and the least mass of a covered fraction passed. Assumes nothing.
 use mathlib.Core.Path.{◌≡◌, refl, sym, ◌∙◌, subst, ap}
-use mathlib.Core.Logic.{⊎_elim, inl, inr}
+use mathlib.Core.Logic.{inl, inr}
 use Prim.Native.Nat.{ℕ, ◌+◌, ◌-◌, ◌≤◌, ◌<◌}
 use native.Mathlib.Nat.{le_refl}
 use borrow.Author.Rules.{rules}

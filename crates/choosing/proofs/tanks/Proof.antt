@@ -1,7 +1,6 @@
 -- `tanks` meets its contract. Invariants: the tanks of the thickening times passed, and in the present one of the return
 -- ratios passed, are in the table. The measures are what is left of the two ranges. Assumes nothing.
 use mathlib.Core.Path.{◌≡◌, refl, ap, ◌∙◌, subst}
-use mathlib.Core.Logic.{⊎_elim}
 use Prim.Native.Nat.{ℕ, ◌+◌, ◌-◌}
 use borrow.Author.Rules.{rules}
 use native.Mathlib.Omega.{arith}

@@ -1,7 +1,7 @@
 -- `target_on` meets its contract: 14 where a test fails, else the entries from the last one up. Assumes nothing.
-use Rattle.std.proofs.Common.{◌≡◌, sym, ◌∙◌, ◌&&◌}
+use Rattle.std.proofs.Common.{sym, ◌∙◌, ◌&&◌}
 use mathlib.Core.Path.{ap₂}
-use Rattle.rules.specs.Consent.{date_valid, consent_valid, target_on}
+use Rattle.rules.specs.Consent.{target_on}
 use Rattle.consents.proofs.FourEntries.{lowest_entry}
 use Rattle.consents.proofs.target_on.Goals as goal
 

@@ -1,6 +1,5 @@
 -- `judge` meets its contract: each exit is one law over plain values, and a candidate that passes the grid's test has the
 -- grid's ranges. Assumes nothing.
-use borrow.Author.Rules.{rules}
 use mathlib.Core.Path.{◌≡◌, sym, ◌∙◌, subst}
 use mathlib.Core.Bool.{true}
 use lib.Dec.{T}

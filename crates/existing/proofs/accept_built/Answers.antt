@@ -1,11 +1,6 @@
 -- `accept_built` meets its contract: at each exit the tests passed so far say which refusal it is. Assumes nothing.
-use borrow.Author.Rules.{rules}
-use mathlib.Core.Path.{◌≡◌, refl, sym, ◌∙◌}
-use mathlib.Core.Bool.{Bool, true, false}
-use borrow.Author.Tests.{not-true, not-false}
-use Rattle.rules.specs.Existing.{span_valid, sizes_positive, accept_built}
-use Rattle.rules.specs.declared.Acceptance.{Acceptance}
-use Rattle.existing.proofs.Winning.{built_by, accept_by_lem}
+use mathlib.Core.Path.{refl, sym, ◌∙◌}
+use Rattle.existing.proofs.Winning.{accept_by_lem}
 use Rattle.existing.proofs.accept_built.Goals as goal
 
 pub returns-then-not-span_valid : goal.returns-then-not-span_valid

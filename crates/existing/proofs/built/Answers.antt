@@ -1,5 +1,4 @@
 -- `built` meets its contract: a refusal of the span, the sizes, the data or the grid stands; else what is held or lost. Assumes nothing.
-use borrow.Author.Rules.{rules}
 use mathlib.Core.Path.{sym, subst, ◌∙◌}
 use Rattle.rules.specs.Existing.{BuiltAccepted}
 use Rattle.existing.proofs.Winning.{built_accepted}

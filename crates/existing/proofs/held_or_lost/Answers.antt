@@ -1,7 +1,6 @@
 -- `held_or_lost` meets its contract: where the fraction keeps its rules, what was tried with the tanks is what is held or lost; where
 -- it does not, the least index is lost. Assumes nothing.
-use borrow.Author.Rules.{rules}
-use mathlib.Core.Path.{◌≡◌, sym, ap, ◌∙◌}
+use mathlib.Core.Path.{sym, ap, ◌∙◌}
 use Rattle.rules.specs.Rules.{verdict}
 use Rattle.rules.specs.ReactorSteps.{reactor_of}
 use Rattle.rules.specs.Examining.{fraction_rules}

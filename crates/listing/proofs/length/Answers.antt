@@ -1,7 +1,6 @@
 -- `listing::length` meets its contract: the length of a form filled in, and that is the listing. Assumes nothing.
 use mathlib.Core.Path.{ap, ◌∙◌}
 use native.Mathlib.Omega.{arith}
-use borrow.Author.Rules.{rules}
 use lib.ListN.{length}
 use Rattle.rules.specs.Listing.{text}
 use Rattle.rules.specs.Answers.{sheet_figures}

@@ -1,14 +1,11 @@
 -- `listing::put_listing` meets its contract: a form filled in over the page, and that is the listing. Assumes nothing.
-use mathlib.Core.Path.{◌≡◌, ap, ◌∙◌}
-use mathlib.Core.List.{[], ◌∷◌}
+use mathlib.Core.Path.{ap, ◌∙◌}
 use native.Mathlib.Omega.{arith}
-use borrow.Author.Rules.{rules}
 use lib.ListN.{length}
-use Rattle.rules.specs.Listing.{text, listing}
-use Rattle.rules.specs.declared.Answer.{Answer}
+use Rattle.rules.specs.Listing.{text}
 use Rattle.listing.specs.Pages.{over}
 use Rattle.rules.specs.Answers.{sheet_figures}
-use Rattle.listing.specs.Forms.{filled, marks}
+use Rattle.listing.specs.Forms.{marks}
 use Rattle.listing.proofs.Listed.{formed, sheet_labels, sheet_form, refused_form, sheet_filled, refused_filled}
 use Rattle.listing.proofs.put_listing.Goals as goal
 

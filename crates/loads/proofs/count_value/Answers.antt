@@ -1,5 +1,4 @@
 -- `count_value` meets its contract, case by case of what the conversion gives. Assumes nothing.
-use borrow.Author.Rules.{rules}
 use borrow.Author.Tests.{le-leb, lt-leb}
 use native.Mathlib.Omega.{arith}
 use Rattle.accepting.specs.declared.Measurement.{Measurement}

@@ -1,7 +1,7 @@
 -- `log_whole` meets its contract: a log under four bytes has no count's length, and the count's range is tested before the
 -- length. Assumes nothing.
 use borrow.Author.Rules.{rules}
-use borrow.Author.Tests.{ne_eqb, not-true, not-false}
+use borrow.Author.Tests.{ne_eqb}
 use mathlib.Core.Path.{◌≡◌, sym, ap, ◌∙◌}
 use mathlib.Core.Bool.{true, false, and-false}
 use mathlib.Core.List.{List}

@@ -1,5 +1,4 @@
 -- `price` meets its contract: a refusal stands, a sheet gets its price where the tariff is valid, and else 22. Assumes nothing.
-use borrow.Author.Rules.{rules}
 use mathlib.Core.Path.{sym, subst, ◌∙◌}
 use mathlib.Core.Bool.{true, false}
 use lib.Dec.{T}

@@ -2,7 +2,6 @@
 -- Assumes nothing.
 use borrow.Author.Rules.{rules}
 use mathlib.Core.Path.{◌≡◌, ap, sym, ◌∙◌}
-use borrow.Author.Tests.{not-true, not-false}
 use Rattle.rules.specs.TermSteps.{nitrifies, term_covered}
 use Rattle.rules.proofs.NoTerms.{none_fails}
 use Rattle.reactor.specs.Seasons.{seasons_of}

@@ -10,7 +10,6 @@ use Rattle.rules.specs.ReactorSteps.{sludge_production, reactor_by, reactor_dose
 use Rattle.rules.specs.declared.Plant.{Plant}
 use Rattle.rules.specs.declared.Concentrations.{Concentrations}
 use Rattle.reactor.specs.Seasons.{inflow_of, season_with, seasons_of}
-use Rattle.reactor.specs.declared.Inflow.{Inflow}
 use Rattle.reactor.specs.declared.Seasons.{Seasons}
 use Rattle.reactor.proofs.reactor.Statement.{statement}
 use Rattle.reactor.proofs.reactor.Tie as tie

@@ -1,11 +1,7 @@
 -- `decode` meets its contract: a malformed frame, or a whole request's data decoded. Assumes nothing.
-use mathlib.Core.Path.{◌≡◌, sym, ◌∙◌}
-use Prim.Native.Nat.{◌+◌, ◌*◌}
+use mathlib.Core.Path.{sym, ◌∙◌}
 use native.Mathlib.Omega.{arith}
-use lib.ListN.{length}
-use borrow.Author.Rules.{rules}
 use Rattle.request.specs.Layout.{decode}
-use Rattle.request.specs.Frames.{data_words}
 use Rattle.request.proofs.Lengths.{whole_length}
 use Rattle.request.proofs.decode.Goals as goal
 

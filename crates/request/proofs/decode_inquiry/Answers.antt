@@ -1,9 +1,6 @@
 -- `decode_inquiry` meets its contract: a malformed frame, or a whole request's terms and date. Assumes nothing.
-use mathlib.Core.Path.{◌≡◌, sym, ◌∙◌}
-use Prim.Native.Nat.{◌*◌}
+use mathlib.Core.Path.{sym, ◌∙◌}
 use native.Mathlib.Omega.{arith}
-use lib.ListN.{length}
-use borrow.Author.Rules.{rules}
 use Rattle.request.specs.ConsentLayout.{decode_inquiry}
 use Rattle.request.specs.Frames.{inquiry_words}
 use Rattle.request.proofs.Lengths.{whole_length}

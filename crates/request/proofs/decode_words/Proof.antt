@@ -1,7 +1,6 @@
 -- `decode_words` meets its contract: an unknown kind, or the plant and the readings. Assumes nothing.
 use mathlib.Core.Path.{sym, ◌∙◌}
 use borrow.Author.Rules.{rules}
-use borrow.Author.Tests.{not-true, not-false}
 use Rattle.request.specs.Layout.{decode_words}
 use Rattle.request.specs.declared.Decoded.{Decoded}
 use Rattle.request.proofs.decode_words.Statement.{statement}

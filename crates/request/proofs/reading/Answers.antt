@@ -1,7 +1,6 @@
 -- `reading` meets its contract: each code gives its kind of reading, and any other a head count. Assumes nothing.
 use native.Mathlib.Omega.{arith}
 use borrow.Author.Tests.{ne_eqb}
-use borrow.Author.Rules.{rules}
 use Rattle.request.specs.Kinds.{reading_of}
 use Rattle.request.proofs.reading.Goals as goal
 

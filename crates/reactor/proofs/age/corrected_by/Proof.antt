@@ -1,5 +1,4 @@
 -- `age::corrected_by` meets its contract: the product has a limit, so that it fits and so does the quotient. Assumes nothing.
-use borrow.Author.Rules.{rules}
 use native.Mathlib.Omega.{arith}
 use mathlib.Core.Path.{refl}
 use Rattle.reactor.proofs.AgeLimits.{corrected_product}
