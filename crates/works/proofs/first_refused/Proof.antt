@@ -31,7 +31,7 @@ line-again c =
 returns : tie.Need-returns invariant-line decreases-line
 returns c =
     let e : c.before.line.i ≡ c.before.before.args.count = omega arith in
-    c.before.line.invariant.1 ∙ ap (first_refused (answer_at c.before.before.args.t1)) e
+    c.before.line.invariant.1 ∙ ap (first_refused (answer_at c.before.before.args.answers)) e
 
 pub first_refused_spec : {M : Type 1} → statement M
 first_refused_spec =

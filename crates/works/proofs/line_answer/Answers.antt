@@ -27,21 +27,21 @@ chosen line own x a e positive h =
 pub choose_accepted-requires : goal.choose_accepted-requires
 choose_accepted-requires c =
     let own = line_of c.args.plant c.args.split c.args.i in
-    let positive = tested made.Line-of.result own _ made.Line-of.ensures c.line_positive.ensures true c.if-line_positive.true in (
-      subst PlantRanges (sym made.Line-of.ensures) (line_ranges c.args.plant c.args.split c.args.i c.requires.2 c.requires.3 c.requires.0 (subst T (sym positive) tt)),
+    let positive = tested c.line_of-line.result own _ c.line_of-line.ensures c.line_positive.ensures true c.if-line_positive.true in (
+      subst PlantRanges (sym c.line_of-line.ensures) (line_ranges c.args.plant c.args.split c.args.i c.requires.2 c.requires.3 c.requires.0 (subst T (sym positive) tt)),
       c.requires.1,
     )
 
 pub returns-then-line_positive : goal.returns-then-line_positive
 returns-then-line_positive c =
     let own = line_of c.args.plant c.args.split c.args.i in
-    chosen made.Line-of.result own c.args.concentrations c.choose_accepted.result made.Line-of.ensures
-    (tested made.Line-of.result own _ made.Line-of.ensures c.line_positive.ensures true c.if-line_positive.true)
+    chosen c.line_of-line.result own c.args.concentrations c.choose_accepted.result c.line_of-line.ensures
+    (tested c.line_of-line.result own _ c.line_of-line.ensures c.line_positive.ensures true c.if-line_positive.true)
     c.choose_accepted.ensures
 
 pub returns : goal.returns
 returns c =
     let own = line_of c.args.plant c.args.split c.args.i in
     subst (λ (b : Bool). LineChosenBy b own c.args.concentrations (Answer.Refused Refusal.PlantData))
-    (sym (tested made.Line-of.result own _ made.Line-of.ensures c.line_positive.ensures false c.if-line_positive.false))
+    (sym (tested c.line_of-line.result own _ c.line_of-line.ensures c.line_positive.ensures false c.if-line_positive.false))
     refl

@@ -22,7 +22,7 @@ line-holds : tie.Need-line-init invariant-line decreases-line
 unfolding values_from
 line-holds c = (
   omega arith,
-  subst (λ (s : Sheet). SheetsTo (answer_at c.before.args.t1) 0 (replicate 8 s)) (sym c.empty_sheet-sheets.ensures) (sheets_none (answer_at c.before.args.t1)),
+  subst (λ (s : Sheet). SheetsTo (answer_at c.before.args.answers) 0 (replicate 8 s)) (sym c.empty_sheet-sheets.ensures) (sheets_none (answer_at c.before.args.answers)),
 )
 
 line-again : tie.Need-line-preserved invariant-line decreases-line
@@ -32,7 +32,7 @@ line-again c =
     let head = inside.before in
     let start = head.before.before in (
       omega (arith, inside.line-test.true),
-      sheets_next (answer_at start.args.t1) head.line.i c.answer_sheet.result head.line.sheets (omega (arith, start.requires, inside.line-test.true)) c.answer_sheet.ensures head.line.invariant.1,
+      sheets_next (answer_at start.args.answers) head.line.i c.answer_sheet.result head.line.sheets (omega (arith, start.requires, inside.line-test.true)) c.answer_sheet.ensures head.line.invariant.1,
     )
 
 returns : tie.Need-returns invariant-line decreases-line
@@ -40,8 +40,8 @@ returns c =
     let head = c.before in
     let start = head.before.before in
     let e : head.line.i ≡ start.args.count = omega arith in
-    sheets_full (answer_at start.args.t1) start.args.count head.line.sheets
-    (subst (λ (n : ℕ). SheetsTo (answer_at start.args.t1) n head.line.sheets) e head.line.invariant.1)
+    sheets_full (answer_at start.args.answers) start.args.count head.line.sheets
+    (subst (λ (n : ℕ). SheetsTo (answer_at start.args.answers) n head.line.sheets) e head.line.invariant.1)
 
 pub sheets_of_spec : {M : Type 1} → statement M
 sheets_of_spec =

@@ -20,7 +20,7 @@ decreases-line count answers sums₀ i₀ sums i = count - i
 line-holds : tie.Need-line-init invariant-line decreases-line
 line-holds c = (
   omega arith,
-  c.no_sums-sums.ensures ∙ sums_none (answer_at c.before.args.t1),
+  c.no_sums-sums.ensures ∙ sums_none (answer_at c.before.args.answers),
   subst (SumsBounds 0) (sym c.no_sums-sums.ensures) none_bounds,
 )
 
@@ -41,7 +41,7 @@ line-again c =
     let made = c.before in
     let inside = made.before.before in
     let head = inside.before in
-    let answers = head.before.before.args.t1 in (
+    let answers = head.before.before.args.answers in (
       omega (arith, inside.line-test.true),
       c.added-sums.ensures.0
           ∙ (ap (sums_with head.line.sums) made.answer_sheet.ensures ∙ sums_next (answer_at answers) head.line.i head.line.sums head.line.invariant.1),
@@ -52,7 +52,7 @@ returns : tie.Need-returns invariant-line decreases-line
 returns c =
     let head = c.before in
     let e : head.line.i ≡ head.before.before.args.count = omega arith in
-    head.line.invariant.1 ∙ ap (sums_of (answer_at head.before.before.args.t1)) e
+    head.line.invariant.1 ∙ ap (sums_of (answer_at head.before.before.args.answers)) e
 
 pub sums_of_spec : {M : Type 1} → statement M
 sums_of_spec =

@@ -17,7 +17,6 @@ use Rattle.rules.proofs.WorksOutcomes.{WorksRanges, works_ranges}
 use Rattle.works.specs.Entries.{answer_at}
 use Rattle.works.proofs.Filled.{lines_bounded}
 use Rattle.works.proofs.works.Goals as goal
-use Rattle.works.proofs.works.Goals.{After-accept_split, In-Accepted-2}
 
 -- what is answered for the whole data
 accepted :
@@ -28,36 +27,21 @@ accepted :
 unfolding accept_works works_rules
 accepted p r split b o e h = sym (h ∙ ap (λ (v : Bool). accept_by (verdict (rule Refusal.Lines v ∷ data_rules p r)) (values_of p r)) e)
 
--- what is answered for the whole data, at the place where it is known
-told :
-    (asked : After-accept_split)
-    → let start = asked.before in accept_works start.args.plant start.args.readings start.args.split ≡ asked.accept_split.result
-told asked =
-    let start = asked.before in
-    accepted start.args.plant start.args.readings start.args.split _ _ asked.split-valid.ensures asked.accept-split.ensures
-
-ranges :
-    (known : In-Accepted-2)
-    → let start = known.before in WorksRanges start.args.plant known.in-Accepted.concentrations start.args.split
-ranges known =
-    let start = known.before in
-    works_ranges start.args.plant start.args.readings start.args.split _ (told known.before ∙ known.concentrations.given.1)
-
 pub lines-requires : goal.lines-requires
-lines-requires c = let r = ranges c.before in (r.plant, r.concentrations, r.valid)
+lines-requires c = let r = works_ranges c.args.plant c.args.readings c.args.split _ (accepted c.args.plant c.args.readings c.args.split _ _ c.split_valid.ensures c.accept_split.ensures ∙ c.in-Accepted.is) in (r.plant, r.concentrations, r.valid)
 
 pub put_together-requires : goal.put_together-requires
 put_together-requires c =
-    let r = ranges c in (
+    let r = works_ranges c.args.plant c.args.readings c.args.split _ (accepted c.args.plant c.args.readings c.args.split _ _ c.split_valid.ensures c.accept_split.ensures ∙ c.in-Accepted.is) in (
       (valid_split c.args.split r.valid).lines.most,
       lines_bounded c.args.plant _ c.args.split c.lines.result r.plant r.concentrations r.valid c.lines.ensures,
     )
 
 pub returns-in-Refused : goal.returns-in-Refused
 returns-in-Refused c =
-    subst (WorksAccepted c.args.plant c.args.split c.refused_works.result) (sym (told c ∙ c.in-Refused.is)) c.refused_works.ensures
+    subst (WorksAccepted c.args.plant c.args.split c.refused_works.result) (sym (accepted c.args.plant c.args.readings c.args.split _ _ c.split_valid.ensures c.accept_split.ensures ∙ c.in-Refused.is)) c.refused_works.ensures
 
 pub returns-in-Accepted : goal.returns-in-Accepted
 returns-in-Accepted c =
-    subst (WorksAccepted c.args.plant c.args.split c.put_together.result) (sym (told c ∙ c.in-Accepted.is))
+    subst (WorksAccepted c.args.plant c.args.split c.put_together.result) (sym (accepted c.args.plant c.args.readings c.args.split _ _ c.split_valid.ensures c.accept_split.ensures ∙ c.in-Accepted.is))
     (record { answers = answer_at c.lines.result; each = c.lines.ensures.each; together = c.put_together.ensures })
