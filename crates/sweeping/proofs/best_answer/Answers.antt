@@ -16,5 +16,5 @@ unfolding best_answer best_kept
 returns-in-At c =
     rw c.in-At.is
     (c.judge.ensures
-    ∙ judge_permitted c.args.plant c.args.concentrations c.in-At.best
+    ∙ judge_permitted c.args.plant c.args.concentrations c.in-At.candidate
     (subst (λ (b : Best). T (best_kept c.args.plant c.args.concentrations b)) c.in-At.is c.requires.2))

@@ -6,7 +6,7 @@ use Rattle.sweeping.proofs.handed_on.Goals as goal
 
 pub key_of-requires : goal.key_of-requires
 key_of-requires c =
-    let d = c.in-At.best in
+    let d = c.in-At.candidate in
     let limit =
     handed_total c.args.plant c.args.concentrations d c.requires.0 c.requires.1 c.in-Designed.sheet
     (sym c.judge.ensures ∙ c.in-Designed.is) in
@@ -18,9 +18,9 @@ returns-in-NoneYet c = rw c.in-NoneYet.is (handed_none c.args.plant c.args.conce
 pub returns-in-Refused : goal.returns-in-Refused
 returns-in-Refused c =
     rw c.in-At.is
-    (handed_broken c.args.plant c.args.concentrations c.in-At.best c.in-Refused.enum_told (sym c.judge.ensures ∙ c.in-Refused.is))
+    (handed_broken c.args.plant c.args.concentrations c.in-At.candidate _ (sym c.judge.ensures ∙ c.in-Refused.is))
 
 pub returns-in-Designed : goal.returns-in-Designed
 returns-in-Designed c =
     rw (c.in-At.is, c.key_of.ensures)
-    (handed_kept c.args.plant c.args.concentrations c.in-At.best c.in-Designed.sheet (sym c.judge.ensures ∙ c.in-Designed.is))
+    (handed_kept c.args.plant c.args.concentrations c.in-At.candidate c.in-Designed.sheet (sym c.judge.ensures ∙ c.in-Designed.is))

@@ -14,8 +14,8 @@ pub returns-in-Refused : goal.returns-in-Refused
 returns-in-Refused c =
     let s = c.args.self in
     let n = c.args.n in
-    let h = data_refused s n c.stay.result c.in-Refused.enum_told (sym c.accept.ensures ∙ c.in-Refused.is) c.stay.ensures in
-    (h, (advance_columns s n c.stay.result h, advance_outcome s n c.stay.result h))
+    let h = data_refused s n c.stay.result _ (sym c.accept.ensures ∙ c.in-Refused.is) c.stay.ensures in
+    record { advanced_from = h; columns = advance_columns s n c.stay.result h; numbered = advance_outcome s n c.stay.result h }
 
 pub returns-in-Accepted : goal.returns-in-Accepted
 returns-in-Accepted c =
@@ -23,4 +23,4 @@ returns-in-Accepted c =
     let n = c.args.n in
     let a = c.advance_accepted.result in
     let h = data_accepted s n a c.in-Accepted.concentrations (sym c.accept.ensures ∙ c.in-Accepted.is) c.advance_accepted.ensures in
-    (h, (advance_columns s n a h, advance_outcome s n a h))
+    record { advanced_from = h; columns = advance_columns s n a h; numbered = advance_outcome s n a h }
