@@ -5,7 +5,7 @@ use Rattle.pewgull.proofs.load.Statement.{statement}
 use Rattle.pewgull.proofs.load.Tie as tie
 
 returns : tie.Need-returns
-returns c = (c.two-week-load.ensures, load_outcome _ c.two-week-load.result c.two-week-load.ensures)
+returns c = (c.two_week_load.ensures, load_outcome _ c.two_week_load.result c.two_week_load.ensures)
 
 pub load_spec : {M : Type 1} → statement M
 load_spec = tie.close (tie.spec (λ c κs. search rules) returns)

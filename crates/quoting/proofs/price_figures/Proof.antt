@@ -11,5 +11,5 @@ price_figures_spec =
     (tie.spec
     (λ c. search rules)
     (λ c. search rules)
-    (λ c. rw c.enum_told.given.1)
-    (λ c. rw c.before.before.answer.given.1))
+    (λ c. rw c.in-Refused.is)
+    (λ c. rw c.in-Priced.is))

@@ -12,9 +12,9 @@ returns c =
     let figured = put.before.before.before.before in
     let numbered = figured.before in
     let page = numbered.before.before.args.page.now in
-    let number = numbered.price-number.ensures in
-    let figures = figured.price-figures.ensures in
-    put.put-figures.ensures ∙ (λ i. put_on (number i) (number_bytes (figures i)) page)
+    let number = numbered.price_number-number.ensures in
+    let figures = figured.price_figures-figures.ensures in
+    put.put_figures.ensures ∙ (λ i. put_on (number i) (number_bytes (figures i)) page)
 
 pub put_price_spec : {M : Type 1} → statement M
 put_price_spec =

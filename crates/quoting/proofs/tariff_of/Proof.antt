@@ -55,20 +55,20 @@ returns c =
     let w3 = w4.before in
     let w2 = w3.before in
     rw (
-      c.word14.ensures,
-      w13.word13.ensures,
-      w12.word12.ensures,
-      w11.word11.ensures,
-      w10.word10.ensures,
-      w9.word9.ensures,
-      w8.word8.ensures,
-      w7.word7.ensures,
-      w6.word6.ensures,
-      w5.word5.ensures,
-      w4.word4.ensures,
-      w3.word3.ensures,
-      w2.word2.ensures,
-      w2.before.word.ensures,
+      c.word-13.ensures,
+      w13.word-12.ensures,
+      w12.word-11.ensures,
+      w11.word-10.ensures,
+      w10.word-9.ensures,
+      w9.word-8.ensures,
+      w8.word-7.ensures,
+      w7.word-6.ensures,
+      w6.word-5.ensures,
+      w5.word-4.ensures,
+      w4.word-3.ensures,
+      w3.word-2.ensures,
+      w2.word.ensures,
+      w2.before.word-count.ensures,
     ) (in_words _ _)
 
 pub tariff_of_spec : {M : Type 1} → statement M

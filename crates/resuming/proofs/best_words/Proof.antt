@@ -4,13 +4,13 @@ use Rattle.resuming.specs.States.{best_words}
 use Rattle.resuming.proofs.best_words.Statement.{statement}
 use Rattle.resuming.proofs.best_words.Tie as tie
 
-returns : tie.Need-returns
+returns-in-NoneYet : tie.Need-returns-in-NoneYet
 unfolding best_words
-returns c = rw c.enum_told.given.1
+returns-in-NoneYet c = rw c.in-NoneYet.is
 
-returns-2 : tie.Need-returns-2
+returns-in-At : tie.Need-returns-in-At
 unfolding best_words
-returns-2 c = rw c.before.best.given.1
+returns-in-At c = rw c.in-At.is
 
 pub best_words_spec : {M : Type 1} → statement M
-best_words_spec = tie.close (tie.spec (λ c. search rules) (λ c. search rules) returns returns-2)
+best_words_spec = tie.close (tie.spec (λ c. search rules) (λ c. search rules) returns-in-NoneYet returns-in-At)

@@ -7,25 +7,25 @@ use Rattle.resuming.proofs.Calls.{finished_short, finished_fits}
 use Rattle.resuming.proofs.put_finished.Statement.{statement}
 use Rattle.resuming.proofs.put_finished.Tie as tie
 
-returns : tie.Need-returns
-returns c =
+returns-then-page-length : tie.Need-returns-then-page-length
+returns-then-page-length c =
     let put = c.before.before in
     let test = put.before.before.before in
     let start = test.before.before.before.before in
     finished_short start.args.state.now start.args.page.now start.args.sweep _ _ _ start.args.answer
-    (omega (arith, test.if1.true, test.before.length.ensures))
+    (omega (arith, test.if-page-length.true, test.before.length.ensures))
     put.put.ensures
 
-returns-2 : tie.Need-returns-2
-returns-2 c =
+returns : tie.Need-returns
+returns c =
     let put = c.before.before in
     let moved = put.before.before.before.before.before in
     let test = moved.before.before in
     let start = test.before.before.before.before in
     finished_fits start.args.state.now start.args.page.now start.args.sweep _ _ _ start.args.answer _
-    (omega (arith, test.if1.false, test.before.length.ensures))
-    (moved.put-sweep.ensures ∙ state_stored start.args.state.now start.args.sweep start.requires)
-    put.put2.ensures
+    (omega (arith, test.if-page-length.false, test.before.length.ensures))
+    (moved.put_sweep.ensures ∙ state_stored start.args.state.now start.args.sweep start.requires)
+    put.put-2.ensures
 
 pub put_finished_spec : {M : Type 1} → statement M
 put_finished_spec =
@@ -34,9 +34,9 @@ put_finished_spec =
     (λ c κs. search rules)
     (λ c κs. search rules)
     (λ c. search rules)
-    returns
+    returns-then-page-length
     (λ c κs. search rules)
     (λ c κs. search rules)
     (λ c. search rules)
     (λ c. search rules)
-    returns-2)
+    returns)

@@ -5,19 +5,19 @@ use Rattle.resuming.specs.States.{start_put}
 use Rattle.resuming.proofs.put_start.Statement.{statement}
 use Rattle.resuming.proofs.put_start.Tie as tie
 
-returns : tie.Need-returns
+returns-in-Refused : tie.Need-returns-in-Refused
 unfolding start_put
-returns c =
-    let told = c.before.before in
-    let start = told.before.before.before.before in
-    rw told.started.given.1 (λ i. outcome (c.refusal-number.ensures i) start.args.state.now 0)
+returns-in-Refused c =
+    let told = c.before in
+    let start = told.before in
+    rw told.in-Refused.is (λ i. outcome (c.refusal_number.ensures i) start.args.state.now 0)
 
-returns-2 : tie.Need-returns-2
+returns-in-Sweep : tie.Need-returns-in-Sweep
 unfolding start_put
-returns-2 c =
-    let put = c.before.before in
-    let told = put.before.before.before.before in
-    rw told.started2.given.1 put.put-state.ensures
+returns-in-Sweep c =
+    let put = c.before in
+    let told = put.before in
+    rw told.in-Sweep.is put.put_state.ensures
 
 pub put_start_spec : {M : Type 1} → statement M
 put_start_spec =
@@ -27,6 +27,6 @@ put_start_spec =
     (λ c κs. search rules)
     (λ c. search rules)
     (λ c κs. search rules)
-    returns
+    returns-in-Refused
     (λ c. search rules)
-    returns-2)
+    returns-in-Sweep)

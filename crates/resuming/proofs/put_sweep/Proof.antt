@@ -16,8 +16,8 @@ returns c =
     let put = c.before.before in
     let best = put.before.before.before in
     let start = best.before.before in
-    put.put-words.ensures
-    ∙ ap (λ (l : List ℕ). sets start.args.state.now (4 * data_words) (word_bytes (start.args.sweep.asked ∷ get_or l 0 0 ∷ get_or l 1 0 ∷ get_or l 2 0 ∷ []))) best.best-words.ensures
+    put.put_words.ensures
+    ∙ ap (λ (l : List ℕ). sets start.args.state.now (4 * data_words) (word_bytes (start.args.sweep.asked ∷ get_or l 0 0 ∷ get_or l 1 0 ∷ get_or l 2 0 ∷ []))) best.best_words-three.ensures
     ∙ ap (λ (l : List ℕ). sets start.args.state.now (4 * data_words) (word_bytes (start.args.sweep.asked ∷ l))) (three_words start.args.sweep.best)
 
 pub put_sweep_spec : {M : Type 1} → statement M

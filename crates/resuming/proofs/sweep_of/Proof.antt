@@ -16,8 +16,8 @@ returns c =
     record {
       plant = start.args.«data».plant;
       readings = start.args.«data».readings;
-      asked = first.word.ensures i;
-      best = (c.best_of.ensures ∙ (λ j. best_of (second.word2.ensures j) (third.word3.ensures j) (fourth.word4.ensures j))) i;
+      asked = first.word-asked.ensures i;
+      best = (c.best_of.ensures ∙ (λ j. best_of (second.word-fraction.ensures j) (third.word-return_ratio.ensures j) (fourth.word-thickening.ensures j))) i;
     }
 
 pub sweep_of_spec : {M : Type 1} → statement M

@@ -8,7 +8,7 @@ returns c =
     let fourth = c.before in
     let third = fourth.before in
     let second = third.before in
-    rw (c.word5.ensures, fourth.word4.ensures, third.word3.ensures, second.word2.ensures, second.before.word.ensures)
+    rw (c.word-5.ensures, fourth.word-4.ensures, third.word-3.ensures, second.word-2.ensures, second.before.word.ensures)
 
 pub existing_of_spec : {M : Type 1} → statement M
 existing_of_spec =

@@ -13,9 +13,9 @@ returns c =
     let indexed = put.before.before.before.before in
     let numbered = indexed.before in
     let page = numbered.before.before.args.page.now in
-    let number = numbered.built-number.ensures in
-    let index = indexed.built-index.ensures in
-    put.put-figures.ensures ∙ (λ i. put_on (number i) (number_bytes (index i ∷ [])) page)
+    let number = numbered.built_number-number.ensures in
+    let index = indexed.built_index-index.ensures in
+    put.put_figures.ensures ∙ (λ i. put_on (number i) (number_bytes (index i ∷ [])) page)
 
 pub put_built_spec : {M : Type 1} → statement M
 put_built_spec =

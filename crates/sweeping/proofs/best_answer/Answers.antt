@@ -1,5 +1,4 @@
 -- `best_answer` meets its contract: a permitted candidate is judged by its sheet. Assumes nothing.
-use borrow.Author.Rules.{rules}
 use mathlib.Core.Path.{◌∙◌, subst}
 use lib.Dec.{T}
 use Rattle.rules.specs.Sweep.{best_kept, best_answer}

@@ -1,5 +1,4 @@
 -- `handed_on` meets its contract: none yet has no key, a candidate is examined. Assumes nothing.
-use borrow.Author.Rules.{rules}
 use mathlib.Core.Path.{◌∙◌, sym}
 use Rattle.sweeping.proofs.Advancing.{handed_none, handed_kept, handed_total, handed_broken}
 use Rattle.sweeping.proofs.handed_on.Goals as goal

@@ -4,7 +4,6 @@ use borrow.Author.Rules.{rules}
 use mathlib.Core.Path.{sym, subst}
 use Prim.Native.Nat.{ℕ, ◌+◌, min}
 use native.Mathlib.Omega.{arith}
-use borrow.Author.Tests.{not-true}
 use Rattle.rules.specs.Limits.{most_fraction}
 use Rattle.rules.specs.Sweep.{Stretch}
 use Rattle.choosing.specs.Keys.{none_yet, Visited, LeastKey}

@@ -1,5 +1,4 @@
 -- `line` meets its contract: a refusal of the split, the number or the whole data stands; else the answer is the line's own. Assumes nothing.
-use borrow.Author.Rules.{rules}
 use mathlib.Core.Path.{◌≡◌, sym, ap, ap₂, subst, ◌∙◌}
 use mathlib.Core.Bool.{Bool, ◌&&◌}
 use mathlib.Core.List.{◌∷◌}

@@ -1,5 +1,4 @@
 -- `line_answer` meets its contract: a line without a part of 0 is in one plant's ranges, and the choice is its own. Assumes nothing.
-use borrow.Author.Rules.{rules}
 use mathlib.Core.Path.{◌≡◌, refl, sym, ap, subst, ◌∙◌}
 use mathlib.Core.Bool.{Bool, true, false}
 use lib.Dec.{T}

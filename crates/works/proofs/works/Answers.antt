@@ -1,5 +1,4 @@
 -- `works` meets its contract: a refusal of the whole data stands; else the lines' answers are the ones that the works is put together from. Assumes nothing.
-use borrow.Author.Rules.{rules}
 use mathlib.Core.Path.{◌≡◌, sym, ap, subst, ◌∙◌}
 use mathlib.Core.Bool.{Bool}
 use mathlib.Core.List.{◌∷◌}
@@ -13,7 +12,7 @@ use Rattle.rules.specs.declared.Split.{Split}
 use Rattle.rules.specs.declared.Refusal.{Refusal}
 use Rattle.rules.specs.declared.Acceptance.{Acceptance}
 use Rattle.rules.proofs.LineLaws.{valid_split}
-use Rattle.rules.proofs.WorksOutcomes.{WorksRanges, works_ranges}
+use Rattle.rules.proofs.WorksOutcomes.{works_ranges}
 use Rattle.works.specs.Entries.{answer_at}
 use Rattle.works.proofs.Filled.{lines_bounded}
 use Rattle.works.proofs.works.Goals as goal

@@ -1,6 +1,5 @@
 -- `Sweep::advance` meets its contract: the data are refused, or the advance is made on what they are accepted with; number, sheet and
 -- columns follow. Assumes nothing.
-use borrow.Author.Rules.{rules}
 use mathlib.Core.Path.{◌∙◌, sym}
 use Rattle.rules.proofs.AcceptedData.{accepted_ranges}
 use Rattle.sweeping.proofs.AdvanceBy.{data_refused, data_accepted, advance_columns, advance_outcome}
