@@ -23,8 +23,7 @@ use rules::{
 const WORKS_FIGURES: usize = 128;
 
 // Examines the candidate of a request. A malformed request is answered by 101 to 103, and nothing is written.
-#[unsafe(no_mangle)]
-pub extern "C" fn pewgull_examine(request: &[u8], page: &mut [u8], written: &mut u64) -> u32
+pub fn pewgull_examine(request: &[u8], page: &mut [u8], written: &mut u64) -> u32
     ensures { outcome result page.new written.new ≡ examined request.now page.old }
 {
     match request::decode(request, request::CANDIDATE_WORDS) {
@@ -42,8 +41,7 @@ pub extern "C" fn pewgull_examine(request: &[u8], page: &mut [u8], written: &mut
 }
 
 // Chooses for the data of a request. A malformed request is answered by 101 to 103, and nothing is written.
-#[unsafe(no_mangle)]
-pub extern "C" fn pewgull_choose(request: &[u8], page: &mut [u8], written: &mut u64) -> u32
+pub fn pewgull_choose(request: &[u8], page: &mut [u8], written: &mut u64) -> u32
     ensures { Choosing request.now page.old (outcome result page.new written.new) }
 {
     match request::decode(request, 0) {
@@ -72,8 +70,7 @@ fn put_works(works: Works, page: &mut [u8], written: &mut u64) -> u32
 }
 
 // Chooses for every line of the works of a request. A malformed request is answered by 101 to 103, and nothing is written.
-#[unsafe(no_mangle)]
-pub extern "C" fn pewgull_works(request: &[u8], page: &mut [u8], written: &mut u64) -> u32
+pub fn pewgull_works(request: &[u8], page: &mut [u8], written: &mut u64) -> u32
     ensures { WorksAsked request.now page.old (outcome result page.new written.new) }
 {
     match request::decode(request, request::WORKS_WORDS) {
@@ -91,8 +88,7 @@ pub extern "C" fn pewgull_works(request: &[u8], page: &mut [u8], written: &mut u
 }
 
 // Gives one line's own answer for the works of a request. A malformed request is answered by 101 to 103, and nothing is written.
-#[unsafe(no_mangle)]
-pub extern "C" fn pewgull_line(request: &[u8], page: &mut [u8], written: &mut u64) -> u32
+pub fn pewgull_line(request: &[u8], page: &mut [u8], written: &mut u64) -> u32
     ensures { LineAsked request.now page.old (outcome result page.new written.new) }
 {
     match request::decode(request, request::LINE_WORDS) {
@@ -209,8 +205,7 @@ fn put_explanation(explanation: Explanation, page: &mut [u8], written: &mut u64)
 }
 
 // Explains the candidate of a request. A malformed request is answered by 101 to 103, and nothing is written.
-#[unsafe(no_mangle)]
-pub extern "C" fn pewgull_explain(request: &[u8], page: &mut [u8], written: &mut u64) -> u32
+pub fn pewgull_explain(request: &[u8], page: &mut [u8], written: &mut u64) -> u32
     ensures { outcome result page.new written.new ≡ explained request.now page.old }
 {
     match request::decode(request, request::CANDIDATE_WORDS) {
@@ -238,8 +233,7 @@ fn put_census(census: Census, page: &mut [u8], written: &mut u64) -> u32
 }
 
 // The census of the grid for the data of a request. A malformed request is answered by 101 to 103, and nothing is written.
-#[unsafe(no_mangle)]
-pub extern "C" fn pewgull_census(request: &[u8], page: &mut [u8], written: &mut u64) -> u32
+pub fn pewgull_census(request: &[u8], page: &mut [u8], written: &mut u64) -> u32
     ensures { outcome result page.new written.new ≡ censused request.now page.old }
 {
     match request::decode(request, 0) {
@@ -288,8 +282,7 @@ fn put_target(answer: TargetAnswer, page: &mut [u8], written: &mut u64) -> u32
 
 // The lowest target in force for the terms and the date of a request. A malformed request is answered by 101 or 102, and
 // nothing is written.
-#[unsafe(no_mangle)]
-pub extern "C" fn pewgull_target(request: &[u8], page: &mut [u8], written: &mut u64) -> u32
+pub fn pewgull_target(request: &[u8], page: &mut [u8], written: &mut u64) -> u32
     ensures { outcome result page.new written.new ≡ targeted request.now page.old }
 {
     match request::decode_inquiry(request) {
@@ -326,8 +319,7 @@ fn load_of(answer: LoadAnswer) -> TwoWeekLoad
 }
 
 // The highest two-week load of a day log: its sum and its day on the page, in eight bytes each.
-#[unsafe(no_mangle)]
-pub extern "C" fn pewgull_load(log: &[u8], page: &mut [u8], written: &mut u64) -> u32
+pub fn pewgull_load(log: &[u8], page: &mut [u8], written: &mut u64) -> u32
     ensures { outcome result page.new written.new ≡ loaded log.now page.old }
 {
     let answer = pewgull::load(log);
@@ -338,16 +330,14 @@ pub extern "C" fn pewgull_load(log: &[u8], page: &mut [u8], written: &mut u64) -
 
 // Starts a sweep on the data of a request, and writes its state. A malformed request is answered by 101 to 103, refused data by their
 // usual number, and nothing is written.
-#[unsafe(no_mangle)]
-pub extern "C" fn pewgull_sweep_start(request: &[u8], state: &mut [u8], written: &mut u64) -> u32
+pub fn pewgull_sweep_start(request: &[u8], state: &mut [u8], written: &mut u64) -> u32
     ensures { outcome result state.new written.new ≡ started_on request.now state.old }
 {
     resuming::start(request, state, written)
 }
 
 // Advances the sweep of a state by so many candidates. A malformed state is answered by 101 to 103, and nothing is changed.
-#[unsafe(no_mangle)]
-pub extern "C" fn pewgull_sweep_advance(
+pub fn pewgull_sweep_advance(
     state: &mut [u8],
     candidates: u32,
     page: &mut [u8],
@@ -359,8 +349,7 @@ pub extern "C" fn pewgull_sweep_advance(
 }
 
 // Examines a candidate for the data of a state, which is only read. A malformed state is answered by 101 to 103, and nothing is written.
-#[unsafe(no_mangle)]
-pub extern "C" fn pewgull_sweep_examine(
+pub fn pewgull_sweep_examine(
     state: &[u8],
     fraction: u32,
     return_ratio: u32,
@@ -381,8 +370,7 @@ pub extern "C" fn pewgull_sweep_examine(
 
 // Whether the existing tanks of a request hold at each sludge volume index of a span: 0 on the page, or the smallest index lost. A
 // malformed request is answered by 101 to 103, and nothing is written.
-#[unsafe(no_mangle)]
-pub extern "C" fn pewgull_built(request: &[u8], page: &mut [u8], written: &mut u64) -> u32
+pub fn pewgull_built(request: &[u8], page: &mut [u8], written: &mut u64) -> u32
     ensures { BuiltOn request.now page.old (outcome result page.new written.new) }
 {
     standing::built(request, page, written)
@@ -390,8 +378,7 @@ pub extern "C" fn pewgull_built(request: &[u8], page: &mut [u8], written: &mut u
 
 // The design chosen for the data of a request, and its price by the request's tariff. A malformed request is answered by 101 to 103, and
 // nothing is written.
-#[unsafe(no_mangle)]
-pub extern "C" fn pewgull_price_choose(request: &[u8], page: &mut [u8], written: &mut u64) -> u32
+pub fn pewgull_price_choose(request: &[u8], page: &mut [u8], written: &mut u64) -> u32
     ensures { ChosenAndPriced request.now page.old (outcome result page.new written.new) }
 {
     quoting::choose(request, page, written)
@@ -399,8 +386,7 @@ pub extern "C" fn pewgull_price_choose(request: &[u8], page: &mut [u8], written:
 
 // The sheet of the candidate of a request, and its price by the request's tariff. A malformed request is answered by 101 to 103, and
 // nothing is written.
-#[unsafe(no_mangle)]
-pub extern "C" fn pewgull_price_examine(request: &[u8], page: &mut [u8], written: &mut u64) -> u32
+pub fn pewgull_price_examine(request: &[u8], page: &mut [u8], written: &mut u64) -> u32
     ensures { outcome result page.new written.new ≡ examined_and_priced request.now page.old }
 {
     quoting::examine(request, page, written)

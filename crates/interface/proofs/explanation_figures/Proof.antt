@@ -11,5 +11,5 @@ explanation_figures_spec =
     (tie.spec
     (λ c. search rules)
     (λ c. search rules)
-    (λ c. rw c.before.explanation.given.1)
-    (λ c. rw c.enum_told.given.1))
+    (λ c. rw c.in-Figures.is)
+    (λ c. rw c.in-Refused.is))

@@ -13,4 +13,4 @@ load_number_spec =
     (λ c. search rules)
     (λ c κs. search rules)
     (λ c. search rules)
-    (λ c. rw c.before.before.answer.given.1 c.refusal-number.ensures))
+    (λ c. rw c.in-Refused.is c.refusal_number.ensures))

@@ -11,5 +11,5 @@ load_of_spec =
     (tie.spec
     (λ c. search rules)
     (λ c. search rules)
-    (λ c. rw c.before.answer.given.1)
-    (λ c. rw c.enum_told.given.1))
+    (λ c. rw c.in-Load.is)
+    (λ c. rw c.in-Refused.is))

@@ -16,11 +16,11 @@ returns c =
     let numbered = carried.before in
     let answered = numbered.before in
     let page = answered.before.before.before.args.page.now in
-    let number = numbered.load-number.ensures in
-    let load = carried.load_of.ensures in
-    put.put-figures.ensures
+    let number = numbered.load_number-number.ensures in
+    let load = carried.load_of-load.ensures in
+    put.put_figures.ensures
     ∙ (λ i. put_on (number i) (number_bytes (load_figures (load i))) page)
-    ∙ (λ i. load_put (answered.load.ensures.0 i) page)
+    ∙ (λ i. load_put (answered.load-answer.ensures.0 i) page)
 
 pub pewgull_load_spec : {M : Type 1} → statement M
 pewgull_load_spec =

@@ -7,23 +7,23 @@ use Rattle.interface.specs.Calls.{target_put, targeted}
 use Rattle.interface.proofs.pewgull_target.Statement.{statement}
 use Rattle.interface.proofs.pewgull_target.Tie as tie
 
-returns : tie.Need-returns
+returns-in-Malformed : tie.Need-returns-in-Malformed
 unfolding targeted malformed
-returns c =
-    let held = c.before.before in
-    let page = held.before.before.before.before.before.args.page.now in
-    rw (sym held.before.before.decode-inquiry.ensures ∙ held.fault.given.1) (λ i. outcome (c.fault-number.ensures i) page 0)
+returns-in-Malformed c =
+    let held = c.before in
+    let page = held.args.page.now in
+    rw (sym held.decode_inquiry.ensures ∙ held.in-Malformed.is) (λ i. outcome (c.fault_number.ensures i) page 0)
 
-returns-2 : tie.Need-returns-2
+returns-in-Inquiry : tie.Need-returns-in-Inquiry
 unfolding targeted
-returns-2 c =
-    let put = c.before.before in
-    let answer = put.before.before.before in
-    let held = answer.before.before.before.before in
-    let decoded = held.before.before in
-    let page = decoded.before.before.before.args.page.now in
-    rw (sym decoded.decode-inquiry.ensures ∙ held.inquiry.given.1)
-    (put.put-target.ensures ∙ (λ i. target_put (answer.target-on.ensures.0 i) page))
+returns-in-Inquiry c =
+    let put = c.before in
+    let answer = put.before in
+    let held = answer.before in
+    let decoded = held.before in
+    let page = decoded.args.page.now in
+    rw (sym decoded.decode_inquiry.ensures ∙ held.in-Inquiry.is)
+    (put.put_target.ensures ∙ (λ i. target_put (answer.target_on.ensures.0 i) page))
 
 pub pewgull_target_spec : {M : Type 1} → statement M
 pewgull_target_spec =
@@ -35,6 +35,6 @@ pewgull_target_spec =
     (λ c. search rules)
     (λ c κs. search rules)
     (λ c κs. search rules)
-    returns
+    returns-in-Malformed
     (λ c. search rules)
-    returns-2)
+    returns-in-Inquiry)

@@ -15,9 +15,9 @@ returns c =
     let explained = verdict.before.before.before.before.before in
     let numbered = explained.before in
     let page = numbered.before.before.args.page.now in
-    let number = numbered.explanation-number.ensures in
-    let figures = explained.explanation-figures.ensures in
-    rw verdict.verdict-number.ensures at put.put-figures.ensures
+    let number = numbered.explanation_number-number.ensures in
+    let figures = explained.explanation_figures-explained.ensures in
+    rw verdict.verdict_number.ensures at put.put_figures.ensures
     ∙ (λ i. put_on (number i) (number_bytes (explained_figures (figures i))) page)
 
 pub put_explanation_spec : {M : Type 1} → statement M

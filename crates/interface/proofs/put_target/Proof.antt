@@ -13,9 +13,9 @@ returns c =
     let valued = put.before.before.before.before in
     let numbered = valued.before in
     let page = numbered.before.before.args.page.now in
-    let number = numbered.target-number.ensures in
-    let target = valued.target-value.ensures in
-    put.put-figures.ensures ∙ (λ i. put_on (number i) (number_bytes (target i ∷ [])) page)
+    let number = numbered.target_number-number.ensures in
+    let target = valued.target_value-target.ensures in
+    put.put_figures.ensures ∙ (λ i. put_on (number i) (number_bytes (target i ∷ [])) page)
 
 pub put_target_spec : {M : Type 1} → statement M
 put_target_spec =

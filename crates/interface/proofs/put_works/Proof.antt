@@ -9,8 +9,8 @@ use Rattle.putting.specs.Outcomes.{put_on}
 use Rattle.interface.proofs.put_works.Statement.{statement}
 use Rattle.interface.proofs.put_works.Tie as tie
 
-cast-number : tie.Need-overflow-cast-number
-cast-number c = omega (arith, c.verdict-number.ensures, verdict_number_most c.before.before.args.works.verdict)
+overflow_cast-number : tie.Need-overflow_cast-number
+overflow_cast-number c = omega (arith, c.verdict_number-number.ensures, verdict_number_most c.before.before.args.works.verdict)
 
 figures-requires : tie.Need-figures-requires
 figures-requires c κs = (c.before.before.before.requires, refl)
@@ -22,14 +22,14 @@ returns c =
     let filled = put.before.before.before.before.before in
     let numbered = filled.before.before in
     let page = numbered.before.before.args.page.now in
-    put.put-figures.ensures ∙ (λ i. put_on (numbered.verdict-number.ensures i) (number_bytes (filled.figures2.ensures i)) page)
+    put.put_figures.ensures ∙ (λ i. put_on (numbered.verdict_number-number.ensures i) (number_bytes (filled.figures.ensures i)) page)
 
 pub put_works_spec : {M : Type 1} → statement M
 put_works_spec =
     tie.close
     (tie.spec
     (λ c κs. search rules)
-    cast-number
+    overflow_cast-number
     (λ c. search rules)
     figures-requires
     (λ c. search rules)

@@ -13,4 +13,4 @@ verdict_number_spec =
     (λ c. search rules)
     (λ c κs. search rules)
     (λ c. search rules)
-    (λ c. rw c.before.before.verdict.given.1 c.refusal-number.ensures))
+    (λ c. rw c.in-Broken.is c.refusal_number.ensures))
