@@ -164,7 +164,7 @@ fn line(label: &str, figure: u64, unit: &'static str) -> Line {
 }
 
 /// The nitrate that the tank's own carbon removes. The key of JSON is always
-/// `by_bod`; the text says what it is reckoned from.
+/// `by-bod`; the text says what it is reckoned from.
 fn by_carbon(start: &str, request: &Request, figure: u64) -> Line {
     let carbon = carbon(request).to_lowercase();
     let in_text = Some(format!("{start}-by-{carbon}"));
