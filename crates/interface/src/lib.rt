@@ -1,5 +1,5 @@
-// The calls for C: a request's bytes in; out the answer's number, its listing or its figures on a page that the caller
-// lends, and the number of bytes written there.
+// The calls for C, which `interface_c` exports: a request's bytes in; out the answer's number, its listing or its figures on a
+// page that the caller lends, and the number of bytes written there.
 #![tactic(auto)]
 
 ghost use Rattle.std.specs.Prelude.{◌≡◌, ◌≤◌, length};
