@@ -235,6 +235,25 @@ fn between(
     lesser(lesser(head, whole), tail)
 }
 
+// The same, with the table made for it. Apart from what returns before a table is needed: with that, two tables would lie on the stack.
+fn tanks_between(
+    plant: Plant,
+    concentrations: Concentrations,
+    seasons: reactor::Seasons,
+    first: Spot,
+    past: Spot,
+) -> u64
+    requires { PlantRanges plant × ConcentrationRanges concentrations × SeasonsAt plant concentrations seasons
+        × SpotsInOrder plant.tank first past }
+    ensures { LeastKey plant concentrations (Visited plant (tank_place first.fraction first.tank) (tank_place past.fraction past.tank)) result }
+{
+    let bottoms = choosing::bottoms(plant.sludge_volume_index);
+    let flow = plant.tank;
+    let last = examining::largest_return_ratio(flow);
+    let table = choosing::tanks(plant, last, bottoms);
+    between(plant, concentrations, seasons, &table, first, past)
+}
+
 // The least key over a stretch of the order, or NONE_YET where nothing of it is permitted. The tanks are looked at only where some
 // fraction of it is covered.
 fn stretch(plant: Plant, concentrations: Concentrations, from: u32, to: u32) -> u64
@@ -249,10 +268,7 @@ fn stretch(plant: Plant, concentrations: Concentrations, from: u32, to: u32) -> 
     if !any_covered(plant, concentrations, seasons, first.fraction, last) {
         return choosing::NONE_YET;
     }
-    let bottoms = choosing::bottoms(plant.sludge_volume_index);
-    let last = examining::largest_return_ratio(flow);
-    let table = choosing::tanks(plant, last, bottoms);
-    between(plant, concentrations, seasons, &table, first, past)
+    tanks_between(plant, concentrations, seasons, first, past)
 }
 
 // The order of choosing as one number.

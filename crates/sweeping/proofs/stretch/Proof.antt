@@ -1,7 +1,7 @@
 -- `stretch` meets its contract: a stretch of the order is the run of places between its spots, of which no candidate is permitted where
 -- no fraction of it is covered. Assumes nothing.
 use borrow.Author.Rules.{rules}
-use mathlib.Core.Path.{sym, subst}
+use mathlib.Core.Path.{subst}
 use Prim.Native.Nat.{ℕ, ◌+◌, min}
 use native.Mathlib.Omega.{arith}
 use Rattle.rules.specs.Limits.{most_fraction}
@@ -70,29 +70,15 @@ returns-then-not-any_covered c =
     let b = between_fractions p first.spot_at-first.result past.spot_at-past.result (in_order past) y v in
     none y.fraction b.0 b.1))
 
-tanks-table-requires : tie.Need-tanks-table-requires
-tanks-table-requires c κs =
-    let settled = c.before in
-    let start = settled.before.before.before.before.before.before.before in
-    (start.requires.0, omega (arith, c.largest_return_ratio-last.ensures.1), settled.bottoms-bottoms.ensures)
-
-between-requires : tie.Need-between-requires
-between-requires c κs =
-    let filled = c.before in
-    let past = filled.before.before.before.before.before.before in
+tanks_between-requires : tie.Need-tanks_between-requires
+tanks_between-requires c κs =
+    let past = c.before.before.before in
     let seasons = past.before.before in
-    let start = seasons.before in (
-      start.requires.0,
-      start.requires.1,
-      seasons.seasons_of-seasons.ensures,
-      rw (sym filled.before.largest_return_ratio-last.ensures.0) filled.tanks-table.ensures,
-      in_order past,
-    )
+    let start = seasons.before in
+    (start.requires.0, start.requires.1, seasons.seasons_of-seasons.ensures, in_order past)
 
 returns : tie.Need-returns
-returns c =
-    let past = c.before.before.before.before.before.before.before.before in
-    of_stretch past c.between.result c.between.ensures
+returns c = of_stretch c.before.before.before.before c.tanks_between.result c.tanks_between.ensures
 
 pub stretch_spec : {M : Type 1} → statement M
 stretch_spec =
@@ -104,9 +90,5 @@ stretch_spec =
     (λ c κs. search rules)
     any_covered-requires
     returns-then-not-any_covered
-    (λ c κs. search rules)
-    (λ c κs. search rules)
-    tanks-table-requires
-    (λ c. search rules)
-    between-requires
+    tanks_between-requires
     returns)
