@@ -18,7 +18,7 @@ command -v cc >/dev/null || fail "cc is missing: install a C compiler, cargo lin
 
 digest=$("$host/digest.sh") || fail "cannot read the sources of the library"
 if [ ! -f "$lib/libinterface.a" ] || [ "$digest" != "$(cat "$lib/digest" 2>/dev/null)" ]; then
-    echo "pewgull: proving and building the library first: about eight minutes" >&2
+    echo "pewgull: proving and building the library first: about seven minutes" >&2
     "$host/build-library.sh" >/dev/null || exit 3
 fi
 cargo build --quiet --release --offline --locked --manifest-path "$host/pewgull/Cargo.toml" >>"$log" 2>&1 ||
