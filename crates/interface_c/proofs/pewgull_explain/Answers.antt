@@ -1,0 +1,5 @@
+-- `pewgull_explain` meets its contract: the outcome is that of the call that it hands on to. Assumes nothing.
+use Rattle.interface_c.proofs.pewgull_explain.Goals as goal
+
+pub returns : goal.returns
+returns c = c.pewgull_explain.ensures
