@@ -1,7 +1,7 @@
 -- The steps of converting a reading are document 01's `convert`: a value at or above the cut-off is out of every accepted
 -- range. Assumes nothing.
-use mathlib.Core.Path.{◌≡◌, refl, sym, ap, subst, ◌∙◌}
-use mathlib.Core.Bool.{Bool, true, false, cond, and-false, false≢true}
+use mathlib.Core.Path.{◌≡◌, refl}
+use mathlib.Core.Bool.{Bool, true, false, cond, ◌&&◌, and-false, false≢true}
 use Prim.Native.Nat.{ℕ, ◌*◌, ◌^◌, ◌≤◌, ◌<◌, zero-le}
 use native.Mathlib.Nat.{mul-pos, mul-le-mul, mul-le-mul_right}
 use native.Mathlib.Omega.{arith}
@@ -11,6 +11,7 @@ use lib.Ieee
 use lib.Ieee.{Float, nan, inf, fin, down}
 use lib.Ieee.Fits.{down_pos}
 use denote.Floats.{passes}
+use Rattle.std.specs.Prelude.{Result, Ok, Err}
 use Rattle.rules.specs.Rounding.{up}
 use Rattle.rules.specs.PlantData.{within}
 use Rattle.rules.specs.LabReadings.{no_number, thousandths, per_head, result_in_range, reading_no_number, heads_in_range, reading_value, reading_in_range}
@@ -19,12 +20,11 @@ use Rattle.rules.specs.declared.Parameter.{Parameter}
 use Rattle.rules.specs.declared.Reading.{Reading}
 use Rattle.rules.specs.declared.Reading.TheVariants
 use Rattle.rules.specs.declared.Refusal.{Refusal}
-use Rattle.accepting.specs.declared.Converted.{Converted}
 use Rattle.accepting.specs.CutOff.{too_large, measurement}
-use Rattle.accepting.specs.Conversion.{column, judge_result, judge_measurement, convert}
-use Rattle.accepting.specs.declared.Measurement.{Measurement}
+use Rattle.accepting.specs.Conversion.{refusal_of, judge_result, convert}
 use Rattle.rules.proofs.Tests.{within_between}
 use Rattle.accepting.proofs.Ties.{le_closest, closest_le}
+use Rattle.accepting.specs.declared.MeasurementError.{MeasurementError}
 
 -- ---- a value at or above the cut-off
 
@@ -72,34 +72,24 @@ too_large_out_of_range k parts x one two t =
 
 -- ---- an f32, whole or halved
 
+-- what becomes of its thousandths, or of their lack
+abbrev pub judge_measurement : Parameter → Result ℕ MeasurementError → Result ℕ Refusal
+judge_measurement k (Ok n) = judge_result k n
+judge_measurement k (Err e) = Err (refusal_of e)
+
 pub judged : (k : Parameter) (parts : ℕ) (x : Float) → 0 < parts → parts ≤ 2
-    → judge_measurement k (measurement parts x) ≡ cond (no_number x) (Converted.Refused Refusal.NoNumber) (judge_result k (thousandths parts x))
+    → judge_measurement k (measurement parts x) ≡ cond (no_number x) (Err Refusal.NoNumber) (judge_result k (thousandths parts x))
 unfolding measurement
 judged k parts x one two = go (no_number x) (too_large x) refl
   where
     go : (n t : Bool) → too_large x ≡ t
-        → judge_measurement k (cond n Measurement.NoNumber (cond t Measurement.TooLarge (Measurement.Thousandths (thousandths parts x))))
-        ≡ cond n (Converted.Refused Refusal.NoNumber) (judge_result k (thousandths parts x))
+        → judge_measurement k (cond n (Err MeasurementError.NoNumber) (cond t (Err MeasurementError.TooLarge) (Ok (thousandths parts x))))
+        ≡ cond n (Err Refusal.NoNumber) (judge_result k (thousandths parts x))
     go true t e = refl
     go false true e = simp (too_large_out_of_range k parts x one two e)
     go false false e = refl
 
 -- ---- Table 1
-
-abbrev row : Parameter → PrimarySettling → ℕ
-row Parameter.Bod s = column s 600 450 400
-row Parameter.Cod s = column s 1200 900 800
-row Parameter.Solids s = column s 700 350 250
-row Parameter.Nitrogen s = column s 110 100 100
-row Parameter.Phosphorus s = column s 18 16 16
-
-pub rows : (k : Parameter) (s : PrimarySettling) → row k s ≡ per_head k s
-unfolding per_head
-rows Parameter.Bod s = elim s as (λ t. row Parameter.Bod t ≡ per_head Parameter.Bod t) [ PrimarySettling.None ↦ refl | PrimarySettling.Short ↦ refl | PrimarySettling.Long ↦ refl ]
-rows Parameter.Cod s = elim s as (λ t. row Parameter.Cod t ≡ per_head Parameter.Cod t) [ PrimarySettling.None ↦ refl | PrimarySettling.Short ↦ refl | PrimarySettling.Long ↦ refl ]
-rows Parameter.Solids s = elim s as (λ t. row Parameter.Solids t ≡ per_head Parameter.Solids t) [ PrimarySettling.None ↦ refl | PrimarySettling.Short ↦ refl | PrimarySettling.Long ↦ refl ]
-rows Parameter.Nitrogen s = elim s as (λ t. row Parameter.Nitrogen t ≡ per_head Parameter.Nitrogen t) [ PrimarySettling.None ↦ refl | PrimarySettling.Short ↦ refl | PrimarySettling.Long ↦ refl ]
-rows Parameter.Phosphorus s = elim s as (λ t. row Parameter.Phosphorus t ≡ per_head Parameter.Phosphorus t) [ PrimarySettling.None ↦ refl | PrimarySettling.Short ↦ refl | PrimarySettling.Long ↦ refl ]
 
 -- no figure of Table 1 is above 1200
 pub per_head_most : (k : Parameter) (s : PrimarySettling) → per_head k s ≤ 1_200
@@ -110,7 +100,7 @@ per_head_most Parameter.Solids s = elim s as (λ t. per_head Parameter.Solids t 
 per_head_most Parameter.Nitrogen s = elim s as (λ t. per_head Parameter.Nitrogen t ≤ 1_200) [ PrimarySettling.None ↦ lit≤ tt | PrimarySettling.Short ↦ lit≤ tt | PrimarySettling.Long ↦ lit≤ tt ]
 per_head_most Parameter.Phosphorus s = elim s as (λ t. per_head Parameter.Phosphorus t ≤ 1_200) [ PrimarySettling.None ↦ lit≤ tt | PrimarySettling.Short ↦ lit≤ tt | PrimarySettling.Long ↦ lit≤ tt ]
 
--- ---- the three kinds of reading, at a daily flow q and a primary settling s
+-- ---- the kinds of reading, at a daily flow q and a primary settling s
 
 module _ (q : ℕ) (s : PrimarySettling) (k : Parameter) where
   pub measured : (x : Float) → judge_measurement k (measurement 1 x) ≡ convert q s k (Reading.Measured x)
@@ -121,18 +111,20 @@ module _ (q : ℕ) (s : PrimarySettling) (k : Parameter) where
   unfolding convert reading_no_number reading_in_range heads_in_range reading_value
   below x = judged k 2 x (lit< tt) (lit≤ tt)
 
-  pub heads_refused : (n : ℕ) → within 1 2_000_000 n ≡ false → Converted.Refused Refusal.ReadingRange ≡ convert q s k (Reading.Heads n)
+  pub heads :
+      (n : ℕ) → convert q s k (Reading.Heads n)
+      ≡ cond (within 1 2_000_000 n) (judge_result k (up (n * per_head k s * 100) q)) (Err Refusal.ReadingRange)
   unfolding convert reading_no_number reading_in_range heads_in_range reading_value
-  heads_refused n e = simp e
+  heads n = go (within 1 2_000_000 n) (result_in_range k (up (n * per_head k s * 100) q))
+    where
+      go : (a b : Bool) → cond (a && b) (Ok (up (n * per_head k s * 100) q)) (Err Refusal.ReadingRange) ≡ cond a (cond b (Ok (up (n * per_head k s * 100) q)) (Err Refusal.ReadingRange)) (Err Refusal.ReadingRange)
+      go true b = refl
+      go false b = refl
 
-  pub heads_judged :
-      (n g v : ℕ) → within 1 2_000_000 n ≡ true → g ≡ per_head k s → v ≡ up (n * g * 100) q
-      → judge_result k v ≡ convert q s k (Reading.Heads n)
-  unfolding convert reading_no_number reading_in_range heads_in_range reading_value
-  heads_judged n g v e figure value = ap (judge_result k) (value ∙ ap (λ (m : ℕ). up (n * m * 100) q) figure) ∙ simp e
-
-  pub heads_most : (n g : ℕ) → within 1 2_000_000 n ≡ true → g ≡ per_head k s → n * g ≤ 2_400_000_000
-  heads_most n g e figure =
-      let range = (within_between 1 2_000_000 n).0 (passes (within 1 2_000_000 n) e) in
-      let most : g ≤ 1_200 = subst (λ (m : ℕ). m ≤ 1_200) (sym figure) (per_head_most k s) in
-      mul-le-mul range.most most
+-- a head count in its range, as the number of 64 bits m, times g of Table 1
+pub heads_most :
+    (s : PrimarySettling) (k : Parameter) (n m g : ℕ) → within 1 2_000_000 n ≡ true → m ≡ n → g ≡ per_head k s
+    → m * g ≤ 2_400_000_000
+heads_most s k n m g e same figure =
+    let range = (within_between 1 2_000_000 n).0 (passes (within 1 2_000_000 n) e) in
+    rw (same, figure) (mul-le-mul range.most (per_head_most k s))

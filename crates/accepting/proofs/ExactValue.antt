@@ -13,10 +13,11 @@ use lib.Ieee.Bits.{of_bits-to_bits}
 use lib.Ieee.Digits.{Equals, odd_val}
 use lib.Ieee.Fits.{down_pos}
 use lib.Ieee.Nearest.{closest, closest_same}
+use Rattle.std.specs.Prelude.{Result, Ok, Err}
 use Rattle.rules.specs.LabReadings.{no_number, thousandths}
 use Rattle.accepting.specs.CutOff.{too_large, measurement}
-use Rattle.accepting.specs.declared.Measurement.{Measurement}
 use Rattle.accepting.proofs.Ties.{closest_zero}
+use Rattle.accepting.specs.declared.MeasurementError.{MeasurementError}
 
 -- ---- an exact value a / c
 
@@ -101,7 +102,7 @@ scales u q r p parts h =
 
 low_fields :
     (parts : ℕ) → 0 < parts → (s : Bool) (k t : ℕ) → t < 2 ^ 23 → no_number (of_fields binary32 s k t) ≡ false → k < 110
-    → measurement parts (of_fields binary32 s k t) ≡ Measurement.Thousandths 0
+    → measurement parts (of_fields binary32 s k t) ≡ Ok 0
 unfolding measurement
 low_fields parts one s k t frac number h =
     let value = fields_value s k t (omega arith) in
@@ -118,7 +119,7 @@ cut_off_doubled a p h = omega arith
 
 middle_fields :
     (parts : ℕ) → 0 < parts → (s : Bool) (k t : ℕ) → t < 2 ^ 23 → no_number (of_fields binary32 s k t) ≡ false → 110 ≤ k → k ≤ 149
-    → measurement parts (of_fields binary32 s k t) ≡ Measurement.Thousandths (closest (1000 * (2 ^ 23 + t)) (parts * 2 ^ (150 - k)))
+    → measurement parts (of_fields binary32 s k t) ≡ Ok (closest (1000 * (2 ^ 23 + t)) (parts * 2 ^ (150 - k)))
 unfolding measurement
 middle_fields parts one s zero t frac number l h = absurd (omega arith)
 middle_fields parts one s (suc k) t frac number l h =
@@ -146,7 +147,7 @@ ends_no_number s (suc k) t e = rw (eq-eqb (suc k) 255 e) (go (eqb t 0))
 
 high_fields :
     (parts : ℕ) (s : Bool) (k t : ℕ) → no_number (of_fields binary32 s k t) ≡ false → 150 ≤ k
-    → measurement parts (of_fields binary32 s k t) ≡ Measurement.TooLarge
+    → measurement parts (of_fields binary32 s k t) ≡ (Err MeasurementError.TooLarge)
 unfolding measurement
 high_fields parts s zero t number l = absurd (omega arith)
 high_fields parts s (suc k) t number l =
@@ -167,7 +168,7 @@ module _
     (exponent : k ≡ to_bits binary32 x / 2 ^ 23 % 2 ^ 8)
     (fraction : t ≡ to_bits binary32 x % 2 ^ 23)
   where
-    carried : (r : Measurement) → ((s : Bool) → no_number (of_fields binary32 s k t) ≡ false → measurement parts (of_fields binary32 s k t) ≡ r) → measurement parts x ≡ r
+    carried : (r : Result ℕ MeasurementError) → ((s : Bool) → no_number (of_fields binary32 s k t) ≡ false → measurement parts (of_fields binary32 s k t) ≡ r) → measurement parts x ≡ r
     carried r f =
         let s : Bool = leb (2 ^ 31) (to_bits binary32 x) in
         let is : x ≡ of_fields binary32 s k t = split x fit ∙ ap₂ (λ (m n : ℕ). of_fields binary32 s m n) (sym exponent) (sym fraction) in
@@ -176,12 +177,12 @@ module _
     frac : t < 2 ^ 23
     frac = subst (λ (n : ℕ). n < 2 ^ 23) (sym fraction) (mod-lt (to_bits binary32 x) (pow_pos 23))
 
-    pub at_low : k < 110 → measurement parts x ≡ Measurement.Thousandths 0
-    at_low h = carried (Measurement.Thousandths 0) (λ s n. low_fields parts one s k t frac n h)
+    pub at_low : k < 110 → measurement parts x ≡ Ok 0
+    at_low h = carried (Ok 0) (λ s n. low_fields parts one s k t frac n h)
 
-    pub at_middle : 110 ≤ k → k ≤ 149 → measurement parts x ≡ Measurement.Thousandths (closest (1000 * (2 ^ 23 + t)) (parts * 2 ^ (150 - k)))
+    pub at_middle : 110 ≤ k → k ≤ 149 → measurement parts x ≡ Ok (closest (1000 * (2 ^ 23 + t)) (parts * 2 ^ (150 - k)))
     at_middle l h =
-        carried (Measurement.Thousandths (closest (1000 * (2 ^ 23 + t)) (parts * 2 ^ (150 - k)))) (λ s n. middle_fields parts one s k t frac n l h)
+        carried (Ok (closest (1000 * (2 ^ 23 + t)) (parts * 2 ^ (150 - k)))) (λ s n. middle_fields parts one s k t frac n l h)
 
-    pub at_high : 150 ≤ k → measurement parts x ≡ Measurement.TooLarge
-    at_high l = carried Measurement.TooLarge (λ s n. high_fields parts s k t n l)
+    pub at_high : 150 ≤ k → measurement parts x ≡ (Err MeasurementError.TooLarge)
+    at_high l = carried (Err MeasurementError.TooLarge) (λ s n. high_fields parts s k t n l)

@@ -4,4 +4,5 @@ pub mod ExactValue
 pub mod NumberTest
 pub mod Conversions
 pub mod Gathering
+pub mod Accepted
 pub mod Refuted

@@ -8,6 +8,7 @@ use lib.Dec.{leb}
 use lib.Ieee
 use lib.Ieee.{Float, nan, inf, fin, binary32, of_bits, to_bits, lt, le, mul, round}
 use lib.Ieee.Nearest.{closest}
+use Rattle.std.specs.Prelude.{Ok, Err}
 use Rattle.rules.specs.Rules.{Rule, rule, verdict}
 use Rattle.rules.specs.PlantData.{figures_without_dose, plant_figures, plant_in_range}
 use Rattle.rules.specs.LabReadings
@@ -15,7 +16,7 @@ use Rattle.rules.specs.LabReadings.{no_number, thousandths, reading_no_number, c
 use Rattle.rules.specs.Accepting
 use Rattle.rules.specs.Consent.{consent_valid}
 use Rattle.rules.specs.Accepting.{values_of, readings_rules, bulking_rule, terms_rule, accept_by, accept}
-use Rattle.rules.specs.Answers.{acceptance_number}
+use Rattle.rules.specs.Answers.{answer_number}
 use Rattle.rules.specs.OtherSteps.{with_index}
 use Rattle.rules.specs.Cases.{variant, case_a, f32}
 use Rattle.rules.specs.declared.Plant.{Plant}
@@ -27,8 +28,7 @@ use Rattle.rules.specs.declared.Readings.{Readings}
 use Rattle.rules.specs.declared.Parameter.{Parameter}
 use Rattle.rules.specs.declared.PrimarySettling.{PrimarySettling}
 use Rattle.rules.specs.declared.Refusal.{Refusal}
-use Rattle.accepting.specs.declared.Converted.{Converted}
-use Rattle.rules.specs.declared.Acceptance.{Acceptance}
+use Rattle.rules.specs.Results.{Acceptance}
 use Rattle.accepting.specs.Conversion.{value_of, convert}
 
 -- ---- one f32
@@ -58,7 +58,7 @@ rounded_before_halving = (refl, refl)
 
 -- minus zero is the number 0; a test of the sign's bit would refuse it
 pub minus_zero_lem :
-    (convert 1 PrimarySettling.None Parameter.Solids (Reading.Measured (of_bits binary32 0x8000_0000)) ≡ Converted.Value 0)
+    (convert 1 PrimarySettling.None Parameter.Solids (Reading.Measured (of_bits binary32 0x8000_0000)) ≡ Ok 0)
     × (leb 0x8000_0000 (to_bits binary32 (of_bits binary32 0x8000_0000)) ≡ true)
 unfolding convert reading_no_number LabReadings.reading_in_range LabReadings.heads_in_range LabReadings.reading_value LabReadings.result_in_range no_number thousandths of_bits to_bits
 minus_zero_lem = (refl, refl)
@@ -74,7 +74,7 @@ nan_let_through = (refl, refl)
 abbrev twos_first : Plant → Readings → Acceptance
 twos_first p r =
     cond (reading_no_number r.bod || reading_no_number r.cod || reading_no_number r.solids || reading_no_number r.nitrogen || reading_no_number r.phosphorus)
-    (Acceptance.Refused Refusal.NoNumber) (accept p r)
+    (Err Refusal.NoNumber) (accept p r)
 
 -- rule 4 as soon as BOD and COD are converted
 abbrev ratio_early : Plant → Readings → Acceptance
@@ -83,7 +83,7 @@ ratio_early p r =
     (cod_ratio_broken
     (value_of (convert p.flow p.primary_settling Parameter.Bod r.bod))
     (value_of (convert p.flow p.primary_settling Parameter.Cod r.cod)))
-    (Acceptance.Refused Refusal.CodRatio)
+    (Err Refusal.CodRatio)
     (accept p r)
 
 -- measured readings with a BOD, a COD and a nitrogen
@@ -106,10 +106,10 @@ abbrev high_nitrogen : Readings
 high_nitrogen = readings_of (f32 200 1) (f32 450 1) (f32 600 1)
 
 pub record Order : Type 0 where
-  pub in_turn : accept case_a low_bod ≡ Acceptance.Refused Refusal.ReadingRange
-  pub all_twos_first : twos_first case_a low_bod ≡ Acceptance.Refused Refusal.NoNumber
-  pub ratio_last : accept case_a high_nitrogen ≡ Acceptance.Refused Refusal.ReadingRange
-  pub ratio_before_nitrogen : ratio_early case_a high_nitrogen ≡ Acceptance.Refused Refusal.CodRatio
+  pub in_turn : accept case_a low_bod ≡ Err Refusal.ReadingRange
+  pub all_twos_first : twos_first case_a low_bod ≡ Err Refusal.NoNumber
+  pub ratio_last : accept case_a high_nitrogen ≡ Err Refusal.ReadingRange
+  pub ratio_before_nitrogen : ratio_early case_a high_nitrogen ≡ Err Refusal.CodRatio
 
 -- what acceptance on concrete data computes by
 computing : Unit {0}
@@ -130,7 +130,7 @@ unfolding
     Accepting.data_rules
     accept_by
     accept
-    acceptance_number
+    answer_number
     consent_valid
     figures_without_dose
     plant_figures
@@ -148,7 +148,7 @@ order = record { in_turn = refl; all_twos_first = refl; ratio_last = refl; ratio
 
 -- acceptance by other rules
 abbrev number_by : List Rule → Plant → Readings → ℕ
-number_by rules p r = acceptance_number (accept_by (verdict rules) (values_of p r))
+number_by rules p r = answer_number (accept_by (verdict rules) (values_of p r))
 
 -- 1, and the rules after 17
 abbrev figures : Plant → Rule
@@ -168,7 +168,7 @@ abbrev bulking_before_figures : Plant → Readings → ℕ
 bulking_before_figures p r = number_by (bulking_rule p ∷ figures p ∷ rest p r) p r
 
 abbrev accepted : Plant → Readings → ℕ
-accepted p r = acceptance_number (accept p r)
+accepted p r = answer_number (accept p r)
 
 abbrev indexed : ℕ → Plant
 indexed index = with_index index case_a

@@ -2,71 +2,82 @@
 // to 4 or 14.
 #![tactic(auto)]
 
-ghost use Rattle.std.specs.Prelude.{◌≡◌, ◌<◌, ◌≤◌, ◌^◌};
+ghost use Rattle.std.specs.Prelude.{◌≡◌, ◌<◌, ◌≤◌, ◌^◌, IfOk};
 ghost use Rattle.std.specs.Float.Ieee.Nearest.{closest};
 ghost use Rattle.rules.specs.PlantData.{plant_in_range};
 ghost use Rattle.rules.specs.LabReadings.{no_number, per_head, result_in_range, ratio_refused};
 ghost use Rattle.rules.specs.Accepting.{accept};
 ghost use Rattle.rules.specs.Ranges.{Between};
 ghost use Rattle.accepting.specs.CutOff.{measurement};
-ghost use Rattle.accepting.specs.Conversion.{column, judge_result, judge_measurement, value_of, convert, gather, accept_readings, then_terms};
+ghost use Rattle.accepting.specs.Conversion.{refusal_of, judge_result, convert, accept_readings};
+ghost use Rattle.accepting.specs.Acceptance.{acceptance_of};
 
 use rules::{
-    Acceptance, Concentrations, Parameter, Plant, PrimarySettling, Reading, Readings, Refusal, Way,
+    Accepted, Concentrations, Parameter, Plant, PrimarySettling, Reading, Readings, Refusal, Way,
 };
 
-// What an f32 is in thousandths: no number, at or above the cut-off 2^23, or its thousandths.
-#[derive(Clone, Copy)]
-pub enum Measurement {
+// Why an f32 has no thousandths: it is no number, or at or above the cut-off 2^23.
+#[derive(Clone, Copy, Debug, PartialEq, Eq)]
+pub enum MeasurementError {
     NoNumber,
     TooLarge,
-    Thousandths(u64),
 }
 
-// What converting one reading gives: its thousandths of mg/l, or a refusal.
-#[derive(Clone, Copy)]
-pub enum Converted {
-    Value(u64),
-    Refused(Refusal),
+// What is too large is out of every range.
+impl From<MeasurementError> for Refusal {
+    ghost from_gives = { λ error refusal. refusal ≡ refusal_of error };
+
+    fn from(error: MeasurementError) -> Refusal {
+        match error {
+            MeasurementError::NoNumber => Refusal::NoNumber,
+            MeasurementError::TooLarge => Refusal::ReadingRange,
+        }
+    }
 }
 
 // Every plant and site figure is in its range.
-pub fn plant_in_range(plant: Plant) -> bool
-    ensures { result ≡ plant_in_range plant }
+pub fn plant_in_range(plant: &Plant) -> bool
+    ensures { result ≡ plant_in_range plant.now }
 {
-    rounding::within(1, 100_000, plant.load)
-        & rounding::within(1, 200_000, plant.flow)
-        & rounding::within(1, 50_000, plant.wet_weather_flow)
-        & rounding::within(
+    let figures = [
+        (1, 100_000, plant.load),
+        (1, 200_000, plant.flow),
+        (1, 50_000, plant.wet_weather_flow),
+        (
             rules::LEAST_TEMPERATURE,
             rules::MOST_TEMPERATURE,
             plant.design_temperature,
-        )
-        & rounding::within(
+        ),
+        (
             rules::LEAST_TEMPERATURE,
             rules::MOST_TEMPERATURE,
             plant.aeration_temperature,
-        )
-        & rounding::within(50, 200, plant.sludge_volume_index)
-        & rounding::within(
+        ),
+        (50, 200, plant.sludge_volume_index),
+        (
             rules::LEAST_NITRATE_TARGET,
             rules::MOST_NITRATE_TARGET,
             plant.nitrate_target,
-        )
-        & rounding::within(0, 100_000, plant.phosphorus_target)
-        & rounding::within(100, 300, plant.carbon_peak)
-        & rounding::within(100, 300, plant.nitrogen_peak)
-        & rounding::within(6_000, 15_000, plant.oxygen_saturation)
-        & rounding::within(1, 100_000, plant.site_surface)
-        & rounding::within(3_000, 10_000, plant.site_depth)
-        & rounding::within(0, 500_000, plant.dose)
+        ),
+        (0, 100_000, plant.phosphorus_target),
+        (100, 300, plant.carbon_peak),
+        (100, 300, plant.nitrogen_peak),
+        (6_000, 15_000, plant.oxygen_saturation),
+        (1, 100_000, plant.site_surface),
+        (3_000, 10_000, plant.site_depth),
+        (0, 500_000, plant.dose),
+    ];
+    figures
+        .iter()
+        .all(|&(least, most, n)| rounding::within(least, most, n))
 }
 
 // The f32 is not finite, or below zero: a NaN fails both comparisons, and minus zero passes them.
+#[tactic(auto, using(crate::proofs::NumberTest::number_test))]
 fn no_number(x: f32) -> bool
     ensures { result ≡ no_number x }
 {
-    !((0.0 <= x) & (x < f32::from_bits(0x7f80_0000)))
+    !(0.0 <= x && x < f32::INFINITY)
 }
 
 // a / d to the nearest whole number, a tie to the even one.
@@ -86,35 +97,37 @@ fn nearest(a: u64, d: u64) -> u64
 }
 
 // The thousandths nearest to 1 / parts of an f32's exact value, significand · 2^(exponent - 150).
-pub fn to_thousandths(x: f32, parts: u64) -> Measurement
+#[tactic(auto, unfolding(crate::specs::CutOff::measurement))]
+pub fn to_thousandths(x: f32, parts: u64) -> Result<u64, MeasurementError>
     requires { Between 1 2 parts }
     ensures { result ≡ measurement parts x }
 {
     if no_number(x) {
-        return Measurement::NoNumber;
+        return Err(MeasurementError::NoNumber);
     }
-    let bits = f32::to_bits(x);
+    let bits = x.to_bits();
     let exponent = bits >> 23 & 0xff;
     let fraction = bits & 0x7f_ffff;
     // below 2^-17: nearest to 0
     if exponent < 110 {
-        return Measurement::Thousandths(0);
+        return Ok(0);
     }
     // 2^23 or more
     if 149 < exponent {
-        return Measurement::TooLarge;
+        return Err(MeasurementError::TooLarge);
     }
-    let significand = (0x80_0000 + fraction) as u64;
-    Measurement::Thousandths(nearest(1000 * significand, parts << (150 - exponent)))
+    let significand = u64::from(0x80_0000 + fraction);
+    Ok(nearest(1000 * significand, parts << (150 - exponent)))
 }
 
 // The accepted results, mg/m3.
+#[tactic(auto, unfolding(rules::specs::LabReadings::result_in_range))]
 fn result_in_range(parameter: Parameter, n: u64) -> bool
     ensures { result ≡ result_in_range parameter n }
 {
     match parameter {
-        Parameter::Bod => (20_000 <= n) & (n <= 2_000_000),
-        Parameter::Cod => (20_000 <= n) & (n <= 4_400_000),
+        Parameter::Bod => (20_000..=2_000_000).contains(&n),
+        Parameter::Cod => (20_000..=4_400_000).contains(&n),
         Parameter::Solids => n <= 2_000_000,
         Parameter::Nitrogen => n <= 500_000,
         Parameter::Phosphorus => n <= 100_000,
@@ -122,31 +135,28 @@ fn result_in_range(parameter: Parameter, n: u64) -> bool
 }
 
 // Rule 3 on a reading's thousandths.
-fn judge_result(parameter: Parameter, n: u64) -> Converted
+fn judge_result(parameter: Parameter, n: u64) -> Result<u64, Refusal>
     ensures { result ≡ judge_result parameter n }
 {
     if result_in_range(parameter, n) {
-        Converted::Value(n)
+        Ok(n)
     } else {
-        Converted::Refused(Refusal::ReadingRange)
+        Err(Refusal::ReadingRange)
     }
 }
 
-// Rules 2 and 3 on an f32 in thousandths. What is too large is out of every range.
-fn judge_measurement(parameter: Parameter, m: Measurement) -> Converted
-    ensures { result ≡ judge_measurement parameter m }
+// Table 1: g, tenths of g per head and day.
+#[tactic(auto, unfolding(rules::specs::LabReadings::per_head))]
+fn per_head(parameter: Parameter, settling: PrimarySettling) -> u64
+    ensures { result ≡ per_head parameter settling }
 {
-    match m {
-        Measurement::NoNumber => Converted::Refused(Refusal::NoNumber),
-        Measurement::TooLarge => Converted::Refused(Refusal::ReadingRange),
-        Measurement::Thousandths(n) => judge_result(parameter, n),
-    }
-}
-
-// A column of Table 1.
-fn column(settling: PrimarySettling, none: u64, short: u64, long: u64) -> u64
-    ensures { result ≡ column settling none short long }
-{
+    let [none, short, long] = match parameter {
+        Parameter::Bod => [600, 450, 400],
+        Parameter::Cod => [1200, 900, 800],
+        Parameter::Solids => [700, 350, 250],
+        Parameter::Nitrogen => [110, 100, 100],
+        Parameter::Phosphorus => [18, 16, 16],
+    };
     match settling {
         PrimarySettling::None => none,
         PrimarySettling::Short => short,
@@ -154,55 +164,35 @@ fn column(settling: PrimarySettling, none: u64, short: u64, long: u64) -> u64
     }
 }
 
-// Table 1: g, tenths of g per head and day; none, short, long.
-fn per_head(parameter: Parameter, settling: PrimarySettling) -> u64
-    ensures { result ≡ per_head parameter settling }
-{
-    match parameter {
-        Parameter::Bod => column(settling, 600, 450, 400),
-        Parameter::Cod => column(settling, 1200, 900, 800),
-        Parameter::Solids => column(settling, 700, 350, 250),
-        Parameter::Nitrogen => column(settling, 110, 100, 100),
-        Parameter::Phosphorus => column(settling, 18, 16, 16),
-    }
-}
-
 // A head count: its range, then its thousandths.
-fn convert_heads(
-    flow: u32,
-    settling: PrimarySettling,
-    parameter: Parameter,
-    heads: u32,
-) -> Converted
-    requires { 0 < flow }
-    ensures { result ≡ convert flow settling parameter (Reading.Heads heads) }
+#[tactic(auto, using(crate::proofs::Conversions::heads))]
+fn convert_heads(plant: &Plant, parameter: Parameter, heads: u32) -> Result<u64, Refusal>
+    requires { 0 < plant.now.flow }
+    ensures { result ≡ convert plant.now.flow plant.now.primary_settling parameter (Reading.Heads heads) }
 {
     if !rounding::within(1, 2_000_000, heads) {
-        return Converted::Refused(Refusal::ReadingRange);
+        return Err(Refusal::ReadingRange);
     }
-    let grams = per_head(parameter, settling);
-    let n = rounding::round_up(heads as u64 * grams * 100, flow as u64);
+    let grams = per_head(parameter, plant.primary_settling);
+    let flow = plant.flow;
+    let n = rounding::round_up(u64::from(heads) * grams * 100, u64::from(flow));
     judge_result(parameter, n)
 }
 
-// One reading, at the daily flow and the primary settling: 2, then 3, else its thousandths.
-pub fn convert(
-    flow: u32,
-    settling: PrimarySettling,
-    parameter: Parameter,
-    reading: Reading,
-) -> Converted
-    requires { 0 < flow }
-    ensures { result ≡ convert flow settling parameter reading }
+// One reading, at the plant's daily flow and primary settling: 2, then 3, else its thousandths.
+pub fn convert(plant: &Plant, parameter: Parameter, reading: Reading) -> Result<u64, Refusal>
+    requires { 0 < plant.now.flow }
+    ensures { result ≡ convert plant.now.flow plant.now.primary_settling parameter reading }
 {
     match reading {
-        Reading::Measured(x) => judge_measurement(parameter, to_thousandths(x, 1)),
-        Reading::Below(x) => judge_measurement(parameter, to_thousandths(x, 2)),
-        Reading::Heads(n) => convert_heads(flow, settling, parameter, n),
+        Reading::Measured(x) => judge_result(parameter, to_thousandths(x, 1)?),
+        Reading::Below(x) => judge_result(parameter, to_thousandths(x, 2)?),
+        Reading::Heads(n) => convert_heads(plant, parameter, n),
     }
 }
 
 // 4: the COD is too high beside the BOD, in the way by BOD.
+#[tactic(auto, unfolding(rules::specs::LabReadings::ratio_refused, rules::specs::LabReadings::cod_ratio_broken))]
 fn ratio_refused(way: Way, bod: u64, cod: u64) -> bool
     requires { (bod ≤ 4_400_000) × (cod ≤ 4_400_000) }
     ensures { result ≡ ratio_refused way bod cod }
@@ -213,34 +203,21 @@ fn ratio_refused(way: Way, bod: u64, cod: u64) -> bool
     }
 }
 
-// The last three results in turn, with values for BOD and COD: the first refusal, then 4, else accepted.
-fn gather_rest(
-    way: Way,
-    bod: u64,
-    cod: u64,
-    solids: Converted,
-    nitrogen: Converted,
-    phosphorus: Converted,
-) -> Acceptance
-    requires { (bod ≤ 4_400_000) × (cod ≤ 4_400_000) }
-    ensures { result ≡ gather way (Converted.Value bod) (Converted.Value cod) solids nitrogen phosphorus }
+// The readings of a plant: 2 and 3 for each in turn; then 4; else the concentrations.
+#[tactic(auto, unfolding(crate::specs::Conversion::accept_readings, crate::specs::Conversion::gather))]
+fn accept_readings(plant: &Plant, readings: Readings) -> Result<Concentrations, Refusal>
+    requires { 0 < plant.now.flow }
+    ensures { result ≡ accept_readings plant.now readings }
 {
-    let solids = match solids {
-        Converted::Value(n) => n,
-        Converted::Refused(refusal) => return Acceptance::Refused(refusal),
-    };
-    let nitrogen = match nitrogen {
-        Converted::Value(n) => n,
-        Converted::Refused(refusal) => return Acceptance::Refused(refusal),
-    };
-    let phosphorus = match phosphorus {
-        Converted::Value(n) => n,
-        Converted::Refused(refusal) => return Acceptance::Refused(refusal),
-    };
-    if ratio_refused(way, bod, cod) {
-        return Acceptance::Refused(Refusal::CodRatio);
+    let bod = convert(plant, Parameter::Bod, readings.bod)?;
+    let cod = convert(plant, Parameter::Cod, readings.cod)?;
+    let solids = convert(plant, Parameter::Solids, readings.solids)?;
+    let nitrogen = convert(plant, Parameter::Nitrogen, readings.nitrogen)?;
+    let phosphorus = convert(plant, Parameter::Phosphorus, readings.phosphorus)?;
+    if ratio_refused(plant.way, bod, cod) {
+        return Err(Refusal::CodRatio);
     }
-    Acceptance::Accepted(Concentrations {
+    Ok(Concentrations {
         bod,
         cod,
         solids,
@@ -249,76 +226,23 @@ fn gather_rest(
     })
 }
 
-// The five results in turn.
-fn gather(
-    way: Way,
-    bod: Converted,
-    cod: Converted,
-    solids: Converted,
-    nitrogen: Converted,
-    phosphorus: Converted,
-) -> Acceptance
-    requires { (value_of bod ≤ 4_400_000) × (value_of cod ≤ 4_400_000) }
-    ensures { result ≡ gather way bod cod solids nitrogen phosphorus }
-{
-    let bod = match bod {
-        Converted::Value(n) => n,
-        Converted::Refused(refusal) => return Acceptance::Refused(refusal),
-    };
-    let cod = match cod {
-        Converted::Value(n) => n,
-        Converted::Refused(refusal) => return Acceptance::Refused(refusal),
-    };
-    gather_rest(way, bod, cod, solids, nitrogen, phosphorus)
-}
-
-// The readings of a plant with this daily flow, primary settling and way.
-fn accept_readings(flow: u32, settling: PrimarySettling, way: Way, readings: Readings) -> Acceptance
-    requires { 0 < flow }
-    ensures { result ≡ accept_readings flow settling way readings }
-{
-    let bod = readings.bod;
-    let cod = readings.cod;
-    let solids = readings.solids;
-    let nitrogen = readings.nitrogen;
-    let phosphorus = readings.phosphorus;
-    let bod = convert(flow, settling, Parameter::Bod, bod);
-    let cod = convert(flow, settling, Parameter::Cod, cod);
-    let solids = convert(flow, settling, Parameter::Solids, solids);
-    let nitrogen = convert(flow, settling, Parameter::Nitrogen, nitrogen);
-    let phosphorus = convert(flow, settling, Parameter::Phosphorus, phosphorus);
-    gather(way, bod, cod, solids, nitrogen, phosphorus)
-}
-
-// 14, once plant data and readings have their answer: a refusal of them stands.
-fn then_terms(answer: Acceptance, valid: bool) -> Acceptance
-    ensures { result ≡ then_terms answer valid }
-{
-    match answer {
-        Acceptance::Refused(refusal) => Acceptance::Refused(refusal),
-        Acceptance::Accepted(concentrations) => {
-            if valid {
-                Acceptance::Accepted(concentrations)
-            } else {
-                Acceptance::Refused(Refusal::Terms)
-            }
-        }
-    }
-}
-
 // Plant data and readings: 1; then 17; then 2 and 3 for each reading in turn; then 4; then 14; else accepted.
-pub fn accept(plant: Plant, readings: Readings) -> Acceptance
-    ensures { result ≡ accept plant readings }
+pub fn accept(plant: Plant, readings: Readings) -> Result<Accepted, Refusal>
+    ensures value { acceptance_of result ≡ accept plant readings }
+    ensures plant { IfOk result (λ a. a.plant ≡ plant) }
 {
-    if !plant_in_range(plant) {
-        return Acceptance::Refused(Refusal::PlantData);
+    if !plant_in_range(&plant) {
+        return Err(Refusal::PlantData);
     }
     if rules::MOST_INDEX < plant.sludge_volume_index {
-        return Acceptance::Refused(Refusal::Bulking);
+        return Err(Refusal::Bulking);
     }
-    let settling = plant.primary_settling;
-    let consent = plant.consent;
-    let way = plant.way;
-    let answer = accept_readings(plant.flow, settling, way, readings);
-    then_terms(answer, consents::consent_valid(consent))
+    let concentrations = accept_readings(&plant, readings)?;
+    if !consents::consent_valid(&plant.consent) {
+        return Err(Refusal::Terms);
+    }
+    Ok(Accepted {
+        plant,
+        concentrations,
+    })
 }

@@ -7,16 +7,17 @@ use Prim.Native.Nat.{ℕ, ◌+◌, ◌*◌, ◌≤◌, ◌<◌}
 use native.Mathlib.Omega.{arith}
 use borrow.Author.Tests.{eqb-true, eqb-false, ne_eqb}
 use lib.Dec.{T, eqb}
+use Rattle.std.specs.Prelude.{Ok, Err}
 use Rattle.rules.specs.Sums.{values_from}
 use Rattle.rules.specs.Rules.{after}
 use Rattle.rules.specs.AgeNitrate.{on_grid}
 use Rattle.rules.specs.Examining.{judge}
-use Rattle.rules.specs.Answers.{refusal_number, answer_number, verdict_number}
+use Rattle.rules.specs.Answers.{refusal_number, answer_number}
 use Rattle.rules.specs.Census.{one, counted, answer_numbers}
 use Rattle.rules.specs.declared.Plant.{Plant}
 use Rattle.rules.specs.declared.Concentrations.{Concentrations}
 use Rattle.rules.specs.declared.Candidate.{Candidate}
-use Rattle.rules.specs.declared.Verdict.{Verdict}
+use Rattle.rules.specs.Results.{Verdict}
 use Rattle.rules.proofs.SumLaws.{values_same}
 use Rattle.rules.proofs.RuleOrder.{refusal_number_between}
 use Rattle.rules.proofs.GridSums.{ratios, times, grid_same, grid_plus, over_fractions, over_product}
@@ -24,15 +25,15 @@ use Rattle.rules.proofs.CensusLaws.{one_other, fraction_verdict, tank_verdict, j
 use Rattle.census.specs.Tallies.{fractions, fraction_number, tank_number, fraction_count, tank_count, at, Tally, pairs}
 
 -- two verdicts in turn: both are kept, or the first broken is of the one or of the other
-both_kept : (v w : Verdict) → one (verdict_number (after v w)) 0 ≡ one (verdict_number v) 0 * one (verdict_number w) 0
-unfolding verdict_number
-both_kept Verdict.Kept w = omega arith
-both_kept (Verdict.Broken n) w = rw (one_other (refusal_number n) 0 (λ e. let b = refusal_number_between n in omega arith)) (omega arith)
+both_kept : (v w : Verdict) → one (answer_number (after v w)) 0 ≡ one (answer_number v) 0 * one (answer_number w) 0
+unfolding answer_number
+both_kept (Ok u) w = omega arith
+both_kept (Err n) w = rw (one_other (refusal_number n) 0 (λ e. let b = refusal_number_between n in omega arith)) (omega arith)
 
-first_broken : (v w : Verdict) (k : ℕ) → (k ≡ 0 → ⊥) → one (verdict_number (after v w)) k ≡ one (verdict_number v) k + one (verdict_number v) 0 * one (verdict_number w) k
-unfolding verdict_number
-first_broken Verdict.Kept w k apart = omega (arith, one_other 0 k (λ e. apart (sym e)))
-first_broken (Verdict.Broken n) w k apart = rw (one_other (refusal_number n) 0 (λ e. let b = refusal_number_between n in omega arith)) (omega arith)
+first_broken : (v w : Verdict) (k : ℕ) → (k ≡ 0 → ⊥) → one (answer_number (after v w)) k ≡ one (answer_number v) k + one (answer_number v) 0 * one (answer_number w) k
+unfolding answer_number
+first_broken (Ok u) w k apart = omega (arith, one_other 0 k (λ e. apart (sym e)))
+first_broken (Err n) w k apart = rw (one_other (refusal_number n) 0 (λ e. let b = refusal_number_between n in omega arith)) (omega arith)
 
 -- the two cases of `pairs`
 pub pairs_kept : (fraction tank : List ℕ) (tanks : ℕ) → at fraction 0 * at tank 0 ≡ pairs fraction tank tanks 0

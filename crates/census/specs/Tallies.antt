@@ -7,7 +7,7 @@ use Rattle.rules.specs.Rules.{verdict}
 use Rattle.rules.specs.ReactorSteps.{reactor_of}
 use Rattle.rules.specs.SettlingSteps.{settling_of}
 use Rattle.rules.specs.Examining.{fraction_rules, tank_rules}
-use Rattle.rules.specs.Answers.{verdict_number}
+use Rattle.rules.specs.Answers.{answer_number}
 use Rattle.rules.specs.Census.{one, answer_numbers}
 use Rattle.rules.specs.declared.Plant.{Plant}
 use Rattle.rules.specs.declared.Concentrations.{Concentrations}
@@ -21,10 +21,10 @@ most_tanks = span least_ratio most_ratio * span least_time most_time
 
 -- the number of a fraction's verdict, and of a settling tank's
 unfoldable pub fraction_number : Plant → Concentrations → ℕ → ℕ
-fraction_number p x f = verdict_number (verdict (fraction_rules p x (reactor_of p x f)))
+fraction_number p x f = answer_number (verdict (fraction_rules p x (reactor_of p x f)))
 
 unfoldable pub tank_number : Plant → ℕ → ℕ → ℕ
-tank_number p r h = verdict_number (verdict (tank_rules p (settling_of p r h)))
+tank_number p r h = answer_number (verdict (tank_rules p (settling_of p r h)))
 
 -- of the first n fractions of the grid, those numbered k
 abbrev pub fraction_count : Plant → Concentrations → ℕ → ℕ → ℕ

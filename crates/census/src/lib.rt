@@ -6,76 +6,58 @@
 ghost use Rattle.std.specs.Prelude.{◌≡◌, ◌+◌, ◌-◌, ◌*◌, ◌≤◌, ◌<◌};
 ghost use Rattle.rules.specs.Limits.{least_ratio, most_ratio, least_time, most_time};
 ghost use Rattle.rules.specs.Sums.{span, values_from};
-ghost use Rattle.rules.specs.SettlingSteps.{thickening_root, bottom_sludge};
-ghost use Rattle.rules.specs.Ranges.{Between, GridFraction, GridRatio, GridTime, PlantRanges, ConcentrationRanges};
-ghost use Rattle.rules.specs.Answers.{verdict_number};
+ghost use Rattle.rules.specs.Ranges.{GridFraction, GridRatio};
 ghost use Rattle.rules.specs.Census.{answer_numbers, counted, census};
-ghost use Rattle.reactor.specs.Seasons.{SeasonsAt};
 ghost use Rattle.census.specs.Tallies.{fractions, most_tanks, fraction_number, tank_number, fraction_count, tank_count, Tally, AtMost, pairs};
 
-use rules::{Acceptance, Census, Concentrations, Plant, Readings, Verdict};
+use reactor::Basis;
+use rules::{ANSWER_NUMBERS, Accepted, Plant, Readings, Refusal};
+use settling::Thickened;
 
-// The number of a verdict: 0 where every rule is kept, else the first broken rule's.
-fn verdict_number(verdict: Verdict) -> u64
-    ensures { (result ≡ verdict_number verdict) × (result < answer_numbers) }
+// The number of a fraction's verdict: a place in the counts, as that of a tank's verdict is.
+#[tactic(auto, unfolding(crate::specs::Tallies::fraction_number))]
+fn fraction_number(basis: &Basis, fraction: u32) -> usize
+    requires { GridFraction fraction }
+    ensures { (result ≡ fraction_number basis.now.data.plant basis.now.data.concentrations fraction) × (result < answer_numbers) }
 {
-    match verdict {
-        Verdict::Kept => 0,
-        Verdict::Broken(refusal) => listing::refusal_number(refusal),
-    }
-}
-
-// The number of a fraction's verdict.
-fn fraction_number(
-    plant: Plant,
-    concentrations: Concentrations,
-    seasons: reactor::Seasons,
-    fraction: u32,
-) -> usize
-    requires { PlantRanges plant × ConcentrationRanges concentrations × GridFraction fraction × SeasonsAt plant concentrations seasons }
-    ensures { (result ≡ fraction_number plant concentrations fraction) × (result < answer_numbers) }
-{
-    let reactor = reactor::reactor(plant, concentrations, seasons, fraction);
-    verdict_number(reactor::fraction_verdict(plant, concentrations, reactor, seasons)) as usize
+    let reactor = basis.reactor(fraction);
+    listing::answer_number(basis.fraction_verdict(reactor)) as usize
 }
 
 // The number of a settling tank's verdict, from the bottom sludge of its thickening time.
-fn tank_number(plant: Plant, return_ratio: u32, thickening: u32, bottom: u64) -> usize
-    requires plant_ranges { PlantRanges plant × GridRatio return_ratio × GridTime thickening }
-    requires bottom_value { bottom ≡ bottom_sludge (thickening_root thickening) plant.sludge_volume_index }
-    ensures { (result ≡ tank_number plant return_ratio thickening) × (result < answer_numbers) }
+#[tactic(auto, unfolding(crate::specs::Tallies::tank_number))]
+fn tank_number(accepted: &Accepted, return_ratio: u32, thickened: Thickened) -> usize
+    requires { GridRatio return_ratio × (thickened.index ≡ accepted.now.plant.sludge_volume_index) }
+    ensures { (result ≡ tank_number accepted.now.plant return_ratio thickened.time) × (result < answer_numbers) }
 {
-    let settling = settling::settling(plant, return_ratio, thickening, bottom);
-    verdict_number(settling::tank_verdict(plant, settling)) as usize
+    let settling = thickened.tank(accepted, return_ratio);
+    listing::answer_number(settling::tank_verdict(&accepted.plant, settling)) as usize
 }
 
-// The verdicts of the grid's fractions, tallied.
-fn fraction_tally(plant: Plant, concentrations: Concentrations) -> [u64; rules::ANSWER_NUMBERS]
-    requires { PlantRanges plant × ConcentrationRanges concentrations }
-    ensures { Tally (fraction_count plant concentrations fractions) result }
+// The verdicts of the grid's fractions, tallied. What runs through the grid here and below are its own figures, no index.
+fn fraction_tally(accepted: &Accepted) -> [u64; ANSWER_NUMBERS]
+    ensures { Tally (fraction_count accepted.now.plant accepted.now.concentrations fractions) result }
 {
-    let seasons = reactor::seasons_of(plant, concentrations);
-    let mut tally = [0u64; rules::ANSWER_NUMBERS];
+    let basis = Basis::new(*accepted);
+    let mut tally = [0; ANSWER_NUMBERS];
     'fraction: for f in rules::LEAST_FRACTION..=rules::MOST_FRACTION {
-        let number = fraction_number(plant, concentrations, seasons, f);
-        tally[number] = tally[number] + 1;
+        tally[fraction_number(&basis, f)] += 1;
     }
     tally
 }
 
-// The verdicts of the grid's settling tanks with return ratios below the end, tallied. One bottom sludge serves all return
+// The verdicts of the grid's settling tanks with return ratios up to the last, tallied. One bottom sludge serves all return
 // ratios of a thickening time.
-fn tank_tally(plant: Plant, end: u32) -> [u64; rules::ANSWER_NUMBERS]
-    requires { PlantRanges plant × Between (least_ratio + 1) (most_ratio + 1) end }
-    ensures { Tally (tank_count plant (end - least_ratio) (span least_time most_time)) result }
+fn tank_tally(accepted: &Accepted, last: u32) -> [u64; ANSWER_NUMBERS]
+    requires { GridRatio last }
+    ensures { Tally (tank_count accepted.now.plant (span least_ratio last) (span least_time most_time)) result }
 {
-    let index = plant.sludge_volume_index;
-    let mut tally = [0u64; rules::ANSWER_NUMBERS];
+    let index = accepted.plant.sludge_volume_index;
+    let mut tally = [0; ANSWER_NUMBERS];
     'time: for h in rules::LEAST_TIME..=rules::MOST_TIME {
-        let bottom = settling::bottom_sludge(index, h);
-        'ratio: for r in rules::LEAST_RATIO..end {
-            let number = tank_number(plant, r, h, bottom);
-            tally[number] = tally[number] + 1;
+        let thickened = Thickened::new(index, h);
+        'ratio: for r in rules::LEAST_RATIO..=last {
+            tally[tank_number(accepted, r, thickened)] += 1;
         }
     }
     tally
@@ -90,50 +72,42 @@ fn pair_count(fraction: u64, kept: u64, tank: u64, tanks: u64) -> u64
     fraction * tanks + kept * tank
 }
 
-// The counts of the pairs of a fraction and a settling tank by their numbers.
+// The counts of the pairs of a fraction and a settling tank by their numbers. One number is the place in three lists.
 fn pair_counts(
-    fraction: [u64; rules::ANSWER_NUMBERS],
-    tank: [u64; rules::ANSWER_NUMBERS],
+    fraction: [u64; ANSWER_NUMBERS],
+    tank: [u64; ANSWER_NUMBERS],
     tanks: u64,
-) -> [u64; rules::ANSWER_NUMBERS]
+) -> [u64; ANSWER_NUMBERS]
     requires { AtMost fractions fraction × AtMost most_tanks tank × (tanks ≤ most_tanks) }
     ensures { result ≡ values_from 0 answer_numbers (pairs fraction tank tanks) }
 {
     let kept = fraction[0];
-    let mut counts = [0u64; rules::ANSWER_NUMBERS];
+    let mut counts = [0; ANSWER_NUMBERS];
     counts[0] = kept * tank[0];
-    'number: for k in 1..rules::ANSWER_NUMBERS {
+    'number: for k in 1..ANSWER_NUMBERS {
         counts[k] = pair_count(fraction[k], kept, tank[k], tanks);
     }
     counts
 }
 
 // The counts of accepted data.
-fn grid_counts(plant: Plant, concentrations: Concentrations) -> [u64; rules::ANSWER_NUMBERS]
-    requires { PlantRanges plant × ConcentrationRanges concentrations }
-    ensures { result ≡ values_from 0 answer_numbers (counted plant concentrations) }
+fn grid_counts(accepted: &Accepted) -> [u64; ANSWER_NUMBERS]
+    ensures { result ≡ values_from 0 answer_numbers (counted accepted.now.plant accepted.now.concentrations) }
 {
-    let flow = plant.tank;
-    let end = examining::largest_return_ratio(flow) + 1;
-    let tanks = (end - rules::LEAST_RATIO) as u64
-        * (rules::MOST_TIME + 1 - rules::LEAST_TIME) as u64;
-    let fraction = fraction_tally(plant, concentrations);
-    let tank = tank_tally(plant, end);
-    pair_counts(fraction, tank, tanks)
+    let last = examining::largest_return_ratio(accepted.plant.tank);
+    let ratios = u64::from(last + 1 - rules::LEAST_RATIO);
+    let times = u64::from(rules::MOST_TIME + 1 - rules::LEAST_TIME);
+    pair_counts(
+        fraction_tally(accepted),
+        tank_tally(accepted, last),
+        ratios * times,
+    )
 }
 
-// The census of any plant data and readings: 0 and the counts, or the first refusal of the data and zeros.
-pub fn census(plant: Plant, readings: Readings) -> Census
+// The census of any plant data and readings: the counts, or the first refusal of the data.
+pub fn census(plant: Plant, readings: Readings) -> Result<[u64; ANSWER_NUMBERS], Refusal>
     ensures { result ≡ census plant readings }
 {
-    match accepting::accept(plant, readings) {
-        Acceptance::Refused(refusal) => Census {
-            number: listing::refusal_number(refusal),
-            counts: [0u64; rules::ANSWER_NUMBERS],
-        },
-        Acceptance::Accepted(concentrations) => Census {
-            number: 0,
-            counts: grid_counts(plant, concentrations),
-        },
-    }
+    let accepted = accepting::accept(plant, readings)?;
+    Ok(grid_counts(&accepted))
 }

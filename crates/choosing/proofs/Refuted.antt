@@ -1,6 +1,7 @@
 -- Wrong choosers, each refuted on concrete data: its answer does not keep demand 3. Assumes nothing.
 use mathlib.Core.Path.{◌≡◌, refl}
 use lib.Dec.{le→leb}
+use Rattle.std.specs.Prelude.{Ok, Err}
 use Rattle.rules.specs.Examining.{examine}
 use Rattle.rules.specs.Answers.{empty_sheet}
 use Rattle.rules.specs.Choosing.{candidate_total, Chosen}
@@ -14,7 +15,6 @@ use Rattle.rules.specs.declared.Removal.{Removal}
 use Rattle.rules.specs.declared.Reading.{Reading}
 use Rattle.rules.specs.declared.Readings.{Readings}
 use Rattle.rules.specs.declared.Refusal.{Refusal}
-use Rattle.rules.specs.declared.Answer.{Answer}
 use Rattle.rules.proofs.Computing.{steps}
 
 -- Case A's readings with no solids and no phosphorus
@@ -30,7 +30,7 @@ clean_readings =
 
 -- "No design" before looking, or from a sweep of the first fraction alone, which is not covered: 300, 75, 20 is
 -- permitted.
-pub five_before_looking : Chosen case_a readings_a (Answer.Refused Refusal.NoDesign) → ⊥
+pub five_before_looking : Chosen case_a readings_a (Err Refusal.NoDesign) → ⊥
 unfolding steps
 five_before_looking h = h.1 (candidate 300 75 20) tt tt
 
@@ -50,8 +50,8 @@ abbrev thin_plant : Plant
 thin_plant = with_way Way.Cod (variant 5_000 10_000 1_000 5_000 Process.Simultaneous TankFlow.Horizontal Removal.Scraper)
 
 pub five_from_the_largest :
-    (examine thin_plant thin_readings (candidate 500 75 20) ≡ Answer.Refused Refusal.Nitrate)
-    × (Chosen thin_plant thin_readings (Answer.Refused Refusal.NoDesign) → ⊥)
+    (examine thin_plant thin_readings (candidate 500 75 20) ≡ Err Refusal.Nitrate)
+    × (Chosen thin_plant thin_readings (Err Refusal.NoDesign) → ⊥)
 unfolding steps
 five_from_the_largest = (refl, λ h. h.1 (candidate 499 75 20) tt tt)
 
@@ -71,7 +71,7 @@ unfolding steps clean_readings
 least_covered_fraction h = le→leb 3_001 2_999 (h.rivals (candidate 301 49 20) tt tt).total
 
 -- A sheet of zeros has no smaller rival, and is not the sheet of a permitted candidate.
-pub sheet_of_zeros : Chosen case_a readings_a (Answer.Designed empty_sheet) → ⊥
+pub sheet_of_zeros : Chosen case_a readings_a (Ok empty_sheet) → ⊥
 unfolding steps
 sheet_of_zeros h = h.allowed
 

@@ -1,4 +1,3 @@
 -- Laws that the proofs of this crate cite, and wrong readings refuted.
-pub mod Headers
 pub mod Answering
 pub mod Refuted

@@ -1,5 +1,5 @@
 -- A record's header decoded, for every twelve bytes, and what its request is answered with. Assumes nothing.
-use Rattle.std.specs.Prelude.{ℕ, ◌≤◌, ◌≡◌, cond, List, leb, eqb, take, drop}
+use Rattle.std.specs.Prelude.{ℕ, ◌≤◌, ◌≡◌, cond, List, leb, eqb, take, drop, Option, Some, None}
 use Rattle.words.specs.Bytes.{word}
 use Rattle.request.specs.Frames.{longest_request}
 use Rattle.putting.specs.Outcomes.{Outcome, outcome}
@@ -9,21 +9,26 @@ use Rattle.interface.specs.Calls.{examined, Choosing}
 use Rattle.compare.specs.declared.Operation.{Operation}
 use Rattle.compare.specs.declared.Header.{Header}
 
--- the operation that a code stands for, with a request's length and a page's
-unfoldable pub operation_of : ℕ → ℕ → ℕ → Header
-operation_of code length room =
-    cond (eqb code 0) (Header.Record Operation.Examine length room)
-    (cond (eqb code 1) (Header.Record Operation.Choose length room)
-    (cond (eqb code 2) (Header.Record Operation.Built length room)
-    (cond (eqb code 3) (Header.Record Operation.PriceChoose length room)
-    (cond (eqb code 4) (Header.Record Operation.PriceExamine length room) Header.Bad))))
+-- the operation that a code stands for, if any
+unfoldable pub operation_of : ℕ → Option Operation
+operation_of code =
+    cond (eqb code 0) (Some Operation.Examine)
+    (cond (eqb code 1) (Some Operation.Choose)
+    (cond (eqb code 2) (Some Operation.Built)
+    (cond (eqb code 3) (Some Operation.PriceChoose)
+    (cond (eqb code 4) (Some Operation.PriceExamine) None))))
+
+-- a header of this operation
+unfoldable pub header_with : Option Operation → ℕ → ℕ → Option Header
+header_with (Some operation) length room = Some (record { operation = operation; length = length; room = room })
+header_with None length room = None
 
 -- a header: the operation's word, then the page's length, at most 512, and the request's
-unfoldable pub header_of : List ℕ → Header
+unfoldable pub header_of : List ℕ → Option Header
 header_of bytes =
     cond (leb (word bytes 1) 512)
-    (cond (leb (word bytes 2) longest_request) (operation_of (word bytes 0) (word bytes 2) (word bytes 1)) Header.Bad)
-    Header.Bad
+    (cond (leb (word bytes 2) longest_request) (header_with (operation_of (word bytes 0)) (word bytes 2) (word bytes 1)) None)
+    None
 
 -- what the call for an operation gives
 abbrev pub Call : Operation → List ℕ → List ℕ → Outcome → Type 0

@@ -3,12 +3,14 @@
 // a candidate), a page's length and a request's, and then the request. A read or a write that fails ends the program with its error.
 #![tactic(auto)]
 
-ghost use Rattle.std.specs.Prelude.{◌≡◌, ◌≤◌, length, IfOk};
+ghost use Rattle.std.specs.Prelude.{◌≡◌, ◌≤◌, length, IfOk, IfSome};
 ghost use Rattle.request.specs.Frames.{longest_request};
 ghost use Rattle.putting.specs.Outcomes.{outcome};
-ghost use Rattle.compare.specs.Records.{header_of, Call, Answers};
+ghost use Rattle.putting.specs.Replies.{replied};
+ghost use Rattle.compare.specs.Records.{operation_of, header_of, Call, Answers};
 
-use request::LONGEST_REQUEST;
+use putting::Reply;
+use request::{Fault, LONGEST_REQUEST};
 use std::io;
 use std::io::{Read, Write};
 
@@ -22,76 +24,61 @@ pub enum Operation {
     PriceExamine,
 }
 
-// A record's header: the operation, the request's length and the page's, or one that no record has.
+// A record's header: the operation, the request's length and the page's.
 #[derive(Clone, Copy)]
-pub enum Header {
-    Record {
-        operation: Operation,
-        length: usize,
-        room: usize,
-    },
-    Bad,
+pub struct Header {
+    pub operation: Operation,
+    pub length: usize,
+    pub room: usize,
 }
 
-// What a call gives besides the page: its number, and how many bytes it wrote.
-#[derive(Clone, Copy)]
-pub struct Reply {
-    pub number: u32,
-    pub written: usize,
+impl Operation {
+    // The operation that a code stands for, if any. An `Option`: nothing tells one bad header from another, so a `TryFrom` would want an
+    // error type for nothing.
+    #[tactic(auto, unfolding(crate::specs::Records::operation_of))]
+    fn from_code(code: u32) -> Option<Operation>
+        ensures { result ≡ operation_of code }
+    {
+        match code {
+            0 => Some(Operation::Examine),
+            1 => Some(Operation::Choose),
+            2 => Some(Operation::Built),
+            3 => Some(Operation::PriceChoose),
+            4 => Some(Operation::PriceExamine),
+            _ => None,
+        }
+    }
 }
 
-// What a header asks for. A page is at most 512 bytes long, and a request no longer than the longest.
-fn decode_header(bytes: &[u8; 12]) -> Header
-    ensures { result ≡ header_of bytes.now }
+// What a header asks for, if it is one that a record has: a page is at most 512 bytes long, and a request no longer than the longest.
+#[tactic(auto, unfolding(crate::specs::Records::header_of, crate::specs::Records::header_with))]
+fn decode_header(bytes: &[u8; 12]) -> Option<Header>
+    ensures header { result ≡ header_of bytes.now }
+    ensures within { IfSome result (λ header. (header.length ≤ longest_request) × (header.room ≤ 512)) }
 {
     let room = words::word(bytes, 1) as usize;
-    if 512 < room {
-        return Header::Bad;
-    }
     let length = words::word(bytes, 2) as usize;
-    if LONGEST_REQUEST < length {
-        return Header::Bad;
+    if 512 < room || LONGEST_REQUEST < length {
+        return None;
     }
-    match words::word(bytes, 0) {
-        0 => Header::Record {
-            operation: Operation::Examine,
-            length,
-            room,
-        },
-        1 => Header::Record {
-            operation: Operation::Choose,
-            length,
-            room,
-        },
-        2 => Header::Record {
-            operation: Operation::Built,
-            length,
-            room,
-        },
-        3 => Header::Record {
-            operation: Operation::PriceChoose,
-            length,
-            room,
-        },
-        4 => Header::Record {
-            operation: Operation::PriceExamine,
-            length,
-            room,
-        },
-        _ => Header::Bad,
-    }
+    let operation = Operation::from_code(words::word(bytes, 0))?;
+    Some(Header {
+        operation,
+        length,
+        room,
+    })
 }
 
 // The call for an operation.
-fn call(operation: Operation, request: &[u8], page: &mut [u8], written: &mut u64) -> u32
-    ensures { Call operation request.now page.old (outcome result page.new written.new) }
+fn call(operation: Operation, request: &[u8], page: &mut [u8]) -> Result<Reply, Fault>
+    ensures { Call operation request.now page.old (replied result page.new) }
 {
     match operation {
-        Operation::Examine => interface::pewgull_examine(request, page, written),
-        Operation::Choose => interface::pewgull_choose(request, page, written),
-        Operation::Built => interface::pewgull_built(request, page, written),
-        Operation::PriceChoose => interface::pewgull_price_choose(request, page, written),
-        Operation::PriceExamine => interface::pewgull_price_examine(request, page, written),
+        Operation::Examine => interface::examine(request, page),
+        Operation::Choose => interface::choose(request, page),
+        Operation::Built => standing::built(request, page),
+        Operation::PriceChoose => quoting::choose(request, page),
+        Operation::PriceExamine => quoting::examine(request, page),
     }
 }
 
@@ -100,12 +87,10 @@ fn answer(operation: Operation, request: &[u8], page: &mut [u8], room: usize) ->
     requires { (room ≤ 512) × (512 ≤ length page.old) }
     ensures { Answers operation request.now room page.old page.new result.number result.written }
 {
-    let mut written: u64 = 0;
-    let number = call(operation, request, &mut page[..room], &mut written);
-    Reply {
-        number,
-        written: written as usize,
-    }
+    let reply = call(operation, request, &mut page[..room]);
+    let mut written = 0;
+    let number = putting::finish(reply, &mut written);
+    Reply { number, written }
 }
 
 // Fills the buffer from the input, and stops early where the input ends. Gives how many bytes were read.
@@ -124,25 +109,18 @@ fn read_full(input: &mut impl Read, buffer: &mut [u8]) -> io::Result<usize>
 }
 
 // Reads the request that a header announces, answers it and prints the answer. Says whether the request was whole.
-fn respond(
-    input: &mut impl Read,
-    output: &mut impl Write,
-    operation: Operation,
-    length: usize,
-    room: usize,
-) -> io::Result<bool>
-    requires { (length ≤ longest_request) × (room ≤ 512) }
+fn respond(input: &mut impl Read, output: &mut impl Write, header: Header) -> io::Result<bool>
+    requires { (header.length ≤ longest_request) × (header.room ≤ 512) }
 {
     let mut request = [0u8; LONGEST_REQUEST];
-    if read_full(input, &mut request[..length])? != length {
+    let request = &mut request[..header.length];
+    if read_full(input, request)? != header.length {
         return Ok(false);
     }
     let mut page = [0u8; 512];
-    let reply = answer(operation, &request[..length], &mut page, room);
-    let number = reply.number;
-    let written = reply.written;
-    writeln!(output, "{number} {written}")?;
-    output.write_all(&page[..written])?;
+    let reply = answer(header.operation, request, &mut page, header.room);
+    writeln!(output, "{} {}", reply.number, reply.written)?;
+    output.write_all(&page[..reply.written as usize])?;
     Ok(true)
 }
 
@@ -153,12 +131,8 @@ fn take_record(
     bytes: &[u8; 12],
 ) -> io::Result<bool> {
     match decode_header(bytes) {
-        Header::Record {
-            operation,
-            length,
-            room,
-        } => respond(input, output, operation, length, room),
-        Header::Bad => Ok(false),
+        Some(header) => respond(input, output, header),
+        None => Ok(false),
     }
 }
 

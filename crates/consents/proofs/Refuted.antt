@@ -3,8 +3,9 @@
 use Prim.Native.Nat.{ℕ}
 use mathlib.Core.Path.{◌≡◌, refl}
 use mathlib.Core.Bool.{true, false}
+use mathlib.Core.List.{[], ◌∷◌}
 use Rattle.rules.specs.Consent.{date_valid, no_term, target_on}
-use Rattle.rules.specs.Answers.{target_number, target_value}
+use Rattle.rules.specs.Answers.{answer_number, value_or_zero}
 use Rattle.rules.specs.declared.Date.{Date}
 use Rattle.rules.specs.declared.Term.{Term}
 use Rattle.rules.specs.declared.Consent.{Consent}
@@ -24,13 +25,13 @@ abbrev spring : Term
 spring = term (on 1 1) (on 6 30) 9_000
 
 abbrev consent : ℕ → Term → Term → Consent
-consent count a b = record { count = count; first = a; second = b; third = no_term; fourth = no_term }
+consent count a b = record { count = count; terms = a ∷ b ∷ no_term ∷ no_term ∷ [] }
 
 abbrev target_at : Consent → Date → ℕ
-target_at c d = target_value (target_on c d)
+target_at c d = value_or_zero (target_on c d)
 
 abbrev number_at : Consent → Date → ℕ
-number_at c d = target_number (target_on c d)
+number_at c d = answer_number (target_on c d)
 
 pub record WrongDays : Type 0 where
   -- a term whose last day comes before its first is not empty: it runs over the new year, its ends included

@@ -1,13 +1,13 @@
 // The terms of the consent: whether they are valid, and the lowest target in force on a day.
 #![tactic(auto)]
 
-ghost use Rattle.std.specs.Prelude.{◌≡◌, ◌||◌, leb};
-ghost use Rattle.rules.specs.Consent.{days_of, date_valid, not_after, in_force, term_valid, consent_valid, lower_of, target_on};
-ghost use Rattle.consents.specs.Entries.{lowered};
+ghost use Rattle.std.specs.Prelude.{◌≡◌, Ok};
+ghost use Rattle.rules.specs.Consent.{days_of, date_valid, in_force, term_valid, consent_valid, lower_of, target_on};
 
-use rules::{Consent, Date, Refusal, TargetAnswer, Term};
+use rules::{Consent, Date, Refusal, Term};
 
-// The days of a month.
+// The days of a month; 29 February is one.
+#[tactic(auto, unfolding(rules::specs::Consent::days_of))]
 fn days_of(month: u32) -> u32
     ensures { result ≡ days_of month }
 {
@@ -18,116 +18,77 @@ fn days_of(month: u32) -> u32
     }
 }
 
+#[tactic(auto, unfolding(rules::specs::Consent::date_valid))]
 fn date_valid(date: Date) -> bool
     ensures { result ≡ date_valid date }
 {
-    let month = date.month;
-    rounding::within(1, 12, month) & rounding::within(1, days_of(month), date.day)
-}
-
-// A day comes no later in the year than another.
-fn not_after(a: Date, b: Date) -> bool
-    ensures { result ≡ not_after a b }
-{
-    (a.month < b.month) | ((a.month == b.month) & (a.day <= b.day))
+    rounding::within(1, 12, date.month) && rounding::within(1, days_of(date.month), date.day)
 }
 
 // A term runs on a day: from its first to its last, or over the new year where its last comes before its first.
-fn in_force(term: Term, date: Date) -> bool
-    ensures { result ≡ in_force term date }
+#[tactic(auto, unfolding(rules::specs::Consent::in_force, rules::specs::Consent::not_after))]
+fn in_force(term: &Term, date: Date) -> bool
+    ensures { result ≡ in_force term.now date }
 {
-    let first = term.first;
-    let last = term.last;
-    let begun = not_after(first, date);
-    let not_over = not_after(date, last);
-    if not_after(first, last) {
-        begun & not_over
+    let begun = term.first <= date;
+    let not_over = date <= term.last;
+    if term.first <= term.last {
+        begun && not_over
     } else {
-        begun | not_over
+        begun || not_over
     }
 }
 
-fn term_valid(term: Term) -> bool
-    ensures { result ≡ term_valid term }
+// The days, the temperature and the target of a term are in their ranges.
+#[tactic(auto, unfolding(rules::specs::Consent::term_valid))]
+fn term_valid(term: &Term) -> bool
+    ensures { result ≡ term_valid term.now }
 {
-    let first = term.first;
-    let last = term.last;
-    date_valid(first)
-        & date_valid(last)
-        & rounding::within(
+    date_valid(term.first)
+        && date_valid(term.last)
+        && rounding::within(
             rules::LEAST_TERM_TEMPERATURE,
             rules::MOST_TEMPERATURE,
             term.temperature,
         )
-        & rounding::within(
+        && rounding::within(
             rules::LEAST_NITRATE_TARGET,
             rules::MOST_NITRATE_TARGET,
             term.nitrate_target,
         )
 }
 
-// Entry i of a consent with so many terms: it is valid, or not looked at.
-fn entry_valid(count: u32, i: u32, term: Term) -> bool
-    ensures { result ≡ (leb count i || term_valid term) }
-{
-    (count <= i) | term_valid(term)
-}
-
 // At most four terms, each valid.
-pub fn consent_valid(consent: Consent) -> bool
-    ensures { result ≡ consent_valid consent }
+#[tactic(auto, unfolding(rules::specs::Consent::consent_valid))]
+pub fn consent_valid(consent: &Consent) -> bool
+    ensures { result ≡ consent_valid consent.now }
 {
-    let count = consent.count;
-    let first = consent.first;
-    let second = consent.second;
-    let third = consent.third;
-    let fourth = consent.fourth;
-    (count <= rules::MOST_TERMS)
-        & (entry_valid(count, 0, first)
-            & (entry_valid(count, 1, second)
-                & (entry_valid(count, 2, third) & entry_valid(count, 3, fourth))))
+    let count = consent.count as usize;
+    count <= rules::MOST_TERMS && consent.terms[..count].iter().all(|term| term_valid(term))
 }
 
-// The lower of a target and of what the other terms have in force.
-fn lower_of(target: u32, others: TargetAnswer) -> TargetAnswer
-    ensures { result ≡ lower_of target others }
+// The lower of a target and of the lowest of those before it, if there is one. (With `min` at the end of the chain below the code
+// is proved too, but with `max` there it would be refused for a name in the proof, and not for a wrong target.)
+fn lower_of(lowest: Option<u32>, target: u32) -> Option<u32>
+    ensures { Ok result ≡ lower_of target (Ok lowest) }
 {
-    match others {
-        TargetAnswer::InForce(other) => {
-            TargetAnswer::InForce(if target <= other { target } else { other })
-        }
-        TargetAnswer::NoTerm => TargetAnswer::InForce(target),
-        TargetAnswer::Refused(refusal) => TargetAnswer::Refused(refusal),
+    match lowest {
+        Some(least) => Some(target.min(least)),
+        None => Some(target),
     }
 }
 
-// What entry i makes of what the later terms have in force.
-fn lowered_by(count: u32, i: u32, term: Term, date: Date, later: TargetAnswer) -> TargetAnswer
-    ensures { result ≡ lowered count i term date later }
-{
-    if count <= i {
-        return later;
-    }
-    if in_force(term, date) {
-        return lower_of(term.nitrate_target, later);
-    }
-    later
-}
-
-// The lowest target in force on a day, or that no term runs; 14 where the terms or the date are invalid.
-pub fn target_on(consent: Consent, date: Date) -> TargetAnswer
+// The lowest target in force on a day, or none where no term runs; 14 where the terms or the date are invalid.
+#[tactic(auto, using(crate::proofs::Chains::count_most), unfolding(rules::specs::Consent::target_on))]
+pub fn target_on(consent: Consent, date: Date) -> Result<Option<u32>, Refusal>
     ensures { result ≡ target_on consent date }
 {
-    if !(consent_valid(consent) & date_valid(date)) {
-        return TargetAnswer::Refused(Refusal::Terms);
+    if !consent_valid(&consent) || !date_valid(date) {
+        return Err(Refusal::Terms);
     }
-    let count = consent.count;
-    let first = consent.first;
-    let second = consent.second;
-    let third = consent.third;
-    let fourth = consent.fourth;
-    let fourth_on = lowered_by(count, 3, fourth, date, TargetAnswer::NoTerm);
-    let third_on = lowered_by(count, 2, third, date, fourth_on);
-    let second_on = lowered_by(count, 1, second, date, third_on);
-    lowered_by(count, 0, first, date, second_on)
+    let count = consent.count as usize;
+    let running = consent.terms[..count]
+        .iter()
+        .filter(|term| in_force(term, date));
+    Ok(running.map(|term| term.nitrate_target).fold(None, lower_of))
 }

@@ -12,7 +12,7 @@ use Rattle.rules.specs.AgeNitrate.{removed_by_dose, removable, covered}
 use Rattle.rules.specs.ReactorSteps.{reactor_of}
 use Rattle.rules.specs.AerationSteps.{recirculation}
 use Rattle.rules.specs.Examining.{candidate_rules}
-use Rattle.rules.specs.Answers.{acceptance_number, verdict_number}
+use Rattle.rules.specs.Answers.{answer_number}
 use Rattle.rules.specs.Cases.{case_a, readings_a, concentrations_a, candidate}
 use Rattle.rules.specs.WithoutDose.{with_dose}
 use Rattle.rules.specs.declared.Concentrations.{Concentrations}
@@ -32,7 +32,7 @@ reactor = reactor_of case_a (short 200_005) 300
 
 -- 7, or a sheet's 0, of Case A's plant with a dose
 abbrev number_with : ℕ → ℕ
-number_with dose = verdict_number (verdict (candidate_rules (with_dose dose case_a) (short 200_005) (candidate 300 75 20)))
+number_with dose = answer_number (verdict (candidate_rules (with_dose dose case_a) (short 200_005) (candidate 300 75 20)))
 
 abbrev seven_unless : Bool → ℕ
 seven_unless covers = cond covers 0 7
@@ -59,8 +59,8 @@ pub record WrongDoses : Type 0 where
   -- it counts the dose in the sludge, half of its COD as BOD, as A 131E does above 10 mg/l
   pub in_sludge : Differ (sheet_with 20_000).sludge 1_000_000 (reactor_of case_a (short (200_000 + down 20_000 2)) 300).sludge
   -- its range ends one too late, or one too early
-  pub range_late : Differ (acceptance_number (accept (with_dose 500_001 case_a) readings_a)) 1 0
-  pub range_early : Differ (acceptance_number (accept (with_dose 500_000 case_a) readings_a)) 0 1
+  pub range_late : Differ (answer_number (accept (with_dose 500_001 case_a) readings_a)) 1 0
+  pub range_early : Differ (answer_number (accept (with_dose 500_000 case_a) readings_a)) 0 1
 
 pub wrong_doses : WrongDoses
 unfolding steps

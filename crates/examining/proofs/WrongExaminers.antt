@@ -5,6 +5,7 @@ use mathlib.Core.Path.{◌≡◌}
 use mathlib.Core.Bool.{cond}
 use mathlib.Core.List.{[], ◌∷◌}
 use lib.Dec.{leb}
+use Rattle.std.specs.Prelude.{Ok, Err}
 use Rattle.rules.specs.Rounding.{down, up}
 use Rattle.rules.specs.AgeNitrate.{capacity_uptake, corrected_age, covered}
 use Rattle.rules.specs.ReactorSteps.{reactor_of, reactor_volume}
@@ -12,7 +13,7 @@ use Rattle.rules.specs.AerationSteps.{aeration_uptake, carbon_oxygen, saved_oxyg
 use Rattle.rules.specs.Examining.{examine}
 use Rattle.rules.specs.Rules.{rule, verdict}
 use Rattle.rules.specs.SettlingSteps.{settling_of, solids_kept}
-use Rattle.rules.specs.Answers.{answer_number, answer_sheet, verdict_number}
+use Rattle.rules.specs.Answers.{answer_number, answer_sheet}
 use Rattle.rules.specs.Cases.{variant, case_a, readings_a, concentrations_a, candidate}
 use Rattle.rules.specs.declared.Plant.{Plant}
 use Rattle.rules.specs.declared.Process.{Process}
@@ -23,7 +24,7 @@ use Rattle.rules.specs.declared.Readings.{Readings}
 use Rattle.rules.specs.declared.Candidate.{Candidate}
 use Rattle.rules.specs.declared.Sheet.{Sheet}
 use Rattle.rules.specs.declared.Refusal.{Refusal}
-use Rattle.rules.specs.declared.Answer.{Answer}
+use Rattle.rules.specs.Results.{Answer}
 
 -- an examiner's answer differs from the definition's somewhere
 abbrev Wrong : (Plant → Readings → Candidate → Answer) → Type 0
@@ -77,7 +78,7 @@ small_site = variant 5_000 10_000 400 4_000 Process.PreAnoxic TankFlow.Horizonta
 abbrev depth_first : ℕ
 depth_first =
     let settling = settling_of small_site 75 20 in
-    verdict_number
+    answer_number
     (verdict
     (rule Refusal.Solids (solids_kept settling.solids settling.sludge_volume)
     ∷ rule Refusal.Depth (leb settling.depth small_site.site_depth)
@@ -88,9 +89,9 @@ pub record Refuted : Type 0 where
   -- it asks for the depth before the surface: a candidate that breaks both gets 10 instead of 9
   pub depth_before_surface : Differ (answer_number (answer_at small_site 300 75 20)) 9 depth_first
   -- it answers 7 to everything: Case A gets a sheet
-  pub always_7 : Wrong (λ p r y. Answer.Refused Refusal.Nitrate)
+  pub always_7 : Wrong (λ p r y. Err Refusal.Nitrate)
   -- it answers Case A's sheet to everything: the fraction 299 is refused
-  pub always_case_a : Wrong (λ p r y. Answer.Designed (sheet_at case_a 300 75 20))
+  pub always_case_a : Wrong (λ p r y. Ok (sheet_at case_a 300 75 20))
   -- it does so for every candidate that gets a sheet: the return ratio 50 has another depth
   pub case_a_for_candidates : Differ (sheet_at case_a 300 50 20).depth 3_956 (sheet_at case_a 300 75 20).depth
   -- it does so for every plant that gets a sheet: suction has other solids

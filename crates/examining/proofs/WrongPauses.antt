@@ -2,6 +2,7 @@
 -- with a nitrate target of 25 mg/l. Assumes nothing.
 use Prim.Native.Nat.{ℕ, ◌-◌, ◌*◌}
 use mathlib.Core.Path.{◌≡◌, refl}
+use mathlib.Core.List.{[], ◌∷◌}
 use borrow.Author.Tests.{eqb-false}
 use Rattle.rules.specs.Rounding.{down, up}
 use Rattle.rules.specs.AerationSteps.{oxygen_transfer, paused_transfer}
@@ -27,10 +28,12 @@ cold =
     with_consent
     (record {
       count = 1;
-      first = record { first = record { month = 1; day = 1 }; last = record { month = 12; day = 31 }; temperature = 10; nitrate_target = 50_000 };
-      second = no_term;
-      third = no_term;
-      fourth = no_term;
+      terms =
+          record { first = record { month = 1; day = 1 }; last = record { month = 12; day = 31 }; temperature = 10; nitrate_target = 50_000 }
+          ∷ no_term
+          ∷ no_term
+          ∷ no_term
+          ∷ [];
     })
     (with_process Process.Intermittent 25_000)
 

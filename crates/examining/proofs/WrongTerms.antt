@@ -12,7 +12,7 @@ use Rattle.rules.specs.Accepting.{accept}
 use Rattle.rules.specs.AgeNitrate.{growth, corrected_age, capacity, covered}
 use Rattle.rules.specs.ReactorSteps.{reactor_of}
 use Rattle.rules.specs.TermSteps.{aerobic_share, term_share, nitrifies, term_fraction, term_covered}
-use Rattle.rules.specs.Answers.{acceptance_number, answer_number}
+use Rattle.rules.specs.Answers.{answer_number}
 use Rattle.rules.specs.Cases.{variant, case_a, f32, readings_with, readings_a, concentrations_a}
 use Rattle.rules.specs.WithoutDose.{with_dose, covered_by_bod, term_covered_by_bod}
 use Rattle.rules.specs.WithoutTerms.{with_consent}
@@ -32,11 +32,11 @@ term temperature target =
     record { first = record { month = 1; day = 1 }; last = record { month = 12; day = 31 }; temperature = temperature; nitrate_target = target }
 
 abbrev one : ℕ → ℕ → Consent
-one temperature target = record { count = 1; first = term temperature target; second = no_term; third = no_term; fourth = no_term }
+one temperature target = record { count = 1; terms = term temperature target ∷ no_term ∷ no_term ∷ no_term ∷ [] }
 
 -- a term that is not covered, then one in which nitrification is lost
 abbrev two : Consent
-two = record { count = 2; first = term 12 9_999; second = term 4 50_000; third = no_term; fourth = no_term }
+two = record { count = 2; terms = term 12 9_999 ∷ term 4 50_000 ∷ no_term ∷ no_term ∷ [] }
 
 -- the number that a plant under a consent gets at a fraction, with return ratio 75 and thickening time 20
 abbrev number_under : Plant → Consent → ℕ → ℕ
@@ -81,9 +81,9 @@ pub record WrongTerms : Type 0 where
   -- it leaves the dose out: 5,000 removes the 1,000 that the tank's BOD does not
   pub dose_left_out : Differ (number_under (with_dose 5_000 case_a) (one 12 9_000) 300) 0 (sixteen_unless (term_covered_by_bod case_a concentrations_a (reactor 300) (term 12 9_000)))
   -- it looks at entries past the count: the second is no term
-  pub past_the_count : Differ (acceptance_number (accept (with_consent (one 12 10_000) case_a) readings_a)) 0 (cond (term_valid no_term) 0 14)
+  pub past_the_count : Differ (answer_number (accept (with_consent (one 12 10_000) case_a) readings_a)) 0 (cond (term_valid no_term) 0 14)
   -- it asks 14 before 4
-  pub terms_before_ratio : Differ (acceptance_number (accept (with_consent (one 3 10_000) case_a) (readings_with (f32 4_401 10)))) 4 (acceptance_number (accept (with_consent (one 3 10_000) case_a) readings_a))
+  pub terms_before_ratio : Differ (answer_number (accept (with_consent (one 3 10_000) case_a) (readings_with (f32 4_401 10)))) 4 (answer_number (accept (with_consent (one 3 10_000) case_a) readings_a))
 
 pub wrong_terms : WrongTerms
 unfolding steps by_term covered_by_bod term_covered_by_bod

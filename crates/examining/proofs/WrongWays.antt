@@ -11,7 +11,7 @@ use Rattle.rules.specs.AgeNitrate.{nitrified, removes, removes_by_bod}
 use Rattle.rules.specs.ReactorSteps.{phosphorus_sludge, reactor_of}
 use Rattle.rules.specs.TermSteps.{removes_from200, term_removes}
 use Rattle.rules.specs.Examining.{sheet_of, judge}
-use Rattle.rules.specs.Answers.{acceptance_number, answer_number}
+use Rattle.rules.specs.Answers.{answer_number}
 use Rattle.rules.specs.Cases.{case_a, f32, readings_with, concentrations_a, candidate}
 use Rattle.rules.specs.CodCases.{design_u, aeration_u}
 use Rattle.rules.specs.WithoutDose.{with_dose}
@@ -50,7 +50,7 @@ sheet_with dose = sheet_of (with_dose dose by_cod) concentrations_a (candidate 3
 
 -- what acceptance answers to a COD in tenths of mg/l beside a BOD of 200 mg/l
 abbrev ratio_in : Way → ℕ → ℕ
-ratio_in way tenths = acceptance_number (accept (with_way way case_a) (readings_with (f32 tenths 10)))
+ratio_in way tenths = answer_number (accept (with_way way case_a) (readings_with (f32 tenths 10)))
 
 -- Case A as a simultaneous plant in the way by COD, and a term at a temperature
 abbrev simultaneous : Plant

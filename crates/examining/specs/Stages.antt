@@ -9,14 +9,12 @@ use Rattle.rules.specs.declared.Plant.{Plant}
 use Rattle.rules.specs.declared.Concentrations.{Concentrations}
 use Rattle.rules.specs.declared.Candidate.{Candidate}
 use Rattle.rules.specs.declared.Reactor.{Reactor}
-use Rattle.rules.specs.declared.Answer.{Answer}
-use Rattle.reactor.specs.Seasons.{SeasonsAt}
+use Rattle.rules.specs.Results.{Answer}
 use Rattle.examining.specs.declared.Stages.{Stages}
 
 -- the stages are the steps', within their limits, and the verdict is that on the rules of fraction and tank
 pub record StagesOf (p : Plant) (x : Concentrations) (y : Candidate) (s : Stages) : Type 0 where
   pub reactor : s.reactor ≡ reactor_of p x y.fraction
-  pub seasons : SeasonsAt p x s.seasons
   pub settling : s.settling ≡ settling_of p y.return_ratio y.thickening
   pub verdict : s.verdict ≡ verdict (fraction_rules p x s.reactor ++ tank_rules p s.settling)
   pub reactor_bounds : ReactorBounds s.reactor

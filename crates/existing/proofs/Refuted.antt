@@ -8,6 +8,7 @@ use native.Mathlib.Nat.{eq-or-lt_of_le}
 use native.Mathlib.Omega.{arith}
 use lib.Dec.{T}
 use lib.Ieee.Fits.{and_i, and_l}
+use Rattle.std.specs.Prelude.{Result, Ok, Err, Option, Some, None}
 use Rattle.rules.specs.AgeNitrate.{largest_return_ratio}
 use Rattle.rules.specs.Answers.{refusal_number}
 use Rattle.rules.specs.Examining.{sheet_of, permitted}
@@ -22,7 +23,6 @@ use Rattle.rules.specs.declared.Concentrations.{Concentrations}
 use Rattle.rules.specs.declared.Existing.{Existing}
 use Rattle.rules.specs.declared.IndexSpan.{IndexSpan}
 use Rattle.rules.specs.declared.Refusal.{Refusal}
-use Rattle.rules.specs.declared.BuiltAnswer.{BuiltAnswer}
 use Rattle.rules.proofs.Computing.{steps}
 use Rattle.rules.proofs.RangeFacts.{grid_ranges}
 use Rattle.rules.proofs.Examined.{permitted_keeps}
@@ -84,7 +84,7 @@ abbrev no_flow : Plant
 no_flow = variant 0 10_000 1_000 5_000 Process.PreAnoxic TankFlow.Horizontal Removal.Scraper
 
 -- a refusal is no other
-other : (m n : Refusal) → (m ≡ n → ⊥) → BuiltAnswer.Refused m ≡ BuiltAnswer.Refused n → ⊥
+other : (m n : Refusal) → (m ≡ n → ⊥) → ◌≡◌ {A = Result (Option ℕ) Refusal} (Err m) (Err n) → ⊥
 other m n apart e = apart cc
 
 -- what each of the tanks named below wins: the ratio, or that none of 46 does
@@ -163,36 +163,36 @@ each_by_its_own = (λ i within. at i (eq-or-lt_of_le within.0) within, both)
         let grid = won_on_grid case_a concentrations_a e 99 r a in
         none_from (λ k. wins_a e 99 k && wins_a e 100 k) 30 46 computed.each_both r grid.0 (omega (arith, grid.1)) (and_i (wins_a e 99 r) (wins_a e 100 r) a b)
 
-abbrev AnswerA : Existing → IndexSpan → BuiltAnswer → Type 0
+abbrev AnswerA : Existing → IndexSpan → Result (Option ℕ) Refusal → Type 0
 AnswerA e s a = HeldOrLost case_a concentrations_a e s a
 
 -- The wrong answers, each to accepted data and an f and h of the grid but for the last three.
 pub record WrongTanks : Type 0 where
   -- only the ends of the span tried: both are won
-  pub ends_only : AnswerA (tanks 3_980 375 4_012) (span 99 101) BuiltAnswer.Held → ⊥
+  pub ends_only : AnswerA (tanks 3_980 375 4_012) (span 99 101) (Ok None) → ⊥
   -- one return ratio asked for the whole span: none wins both indices, and each is won
-  pub one_ratio : (i : ℕ) → AnswerA (tanks 4_120 375 3_846) (span 99 100) (BuiltAnswer.Lost i) → ⊥
+  pub one_ratio : (i : ℕ) → AnswerA (tanks 4_120 375 3_846) (span 99 100) (Ok (Some i)) → ⊥
   -- the largest index lost
-  pub largest_lost : AnswerA (tanks 4_103 375 3_846) (span 99 101) (BuiltAnswer.Lost 101) → ⊥
+  pub largest_lost : AnswerA (tanks 4_103 375 3_846) (span 99 101) (Ok (Some 101)) → ⊥
   -- the built surface compared with the site's: it is smaller, and too small; it is larger, and enough
-  pub site_for_need : AnswerA (tanks 3_750 375 4_230) (span 100 100) BuiltAnswer.Held → ⊥
-  pub above_site : AnswerA (tanks 3_750 1_001 4_230) (span 100 100) (BuiltAnswer.Lost 100) → ⊥
+  pub site_for_need : AnswerA (tanks 3_750 375 4_230) (span 100 100) (Ok None) → ⊥
+  pub above_site : AnswerA (tanks 3_750 1_001 4_230) (span 100 100) (Ok (Some 100)) → ⊥
   -- the plant's own index, 100, used: it is won and 101 is lost; it is lost and 101 is won
-  pub own_index_won : AnswerA (tanks 4_103 375 3_846) (span 101 101) BuiltAnswer.Held → ⊥
-  pub own_index_lost : AnswerA (tanks 3_980 375 4_012) (span 101 101) (BuiltAnswer.Lost 101) → ⊥
+  pub own_index_won : AnswerA (tanks 4_103 375 3_846) (span 101 101) (Ok None) → ⊥
+  pub own_index_lost : AnswerA (tanks 3_980 375 4_012) (span 101 101) (Ok (Some 101)) → ⊥
   -- a size that is just built, and the reactor or the depth not compared
-  pub just_met : AnswerA (tanks 3_750 376 4_230) (span 100 100) (BuiltAnswer.Lost 100) → ⊥
-  pub reactor_left_out : AnswerA (tanks 3_749 376 4_230) (span 100 100) BuiltAnswer.Held → ⊥
-  pub depth_left_out : AnswerA (tanks 3_750 376 4_229) (span 100 100) BuiltAnswer.Held → ⊥
+  pub just_met : AnswerA (tanks 3_750 376 4_230) (span 100 100) (Ok (Some 100)) → ⊥
+  pub reactor_left_out : AnswerA (tanks 3_749 376 4_230) (span 100 100) (Ok None) → ⊥
+  pub depth_left_out : AnswerA (tanks 3_750 376 4_229) (span 100 100) (Ok None) → ⊥
   -- the site's limit left out, and the cover
-  pub no_site : HeldOrLost small_site concentrations_a (tanks 3_750 376 4_230) (span 100 100) BuiltAnswer.Held → ⊥
-  pub no_cover : AnswerA (uncovered_at 299) (span 100 100) BuiltAnswer.Held → ⊥
+  pub no_site : HeldOrLost small_site concentrations_a (tanks 3_750 376 4_230) (span 100 100) (Ok None) → ⊥
+  pub no_cover : AnswerA (uncovered_at 299) (span 100 100) (Ok None) → ⊥
   -- return ratios up to 75 in vertical flow
-  pub vertical_to_75 : HeldOrLost vertical_a concentrations_a (tanks 3_082 352 5_772) (span 100 100) (BuiltAnswer.Lost 100) → ⊥
+  pub vertical_to_75 : HeldOrLost vertical_a concentrations_a (tanks 3_082 352 5_772) (span 100 100) (Ok (Some 100)) → ⊥
   -- 21 before 20; 1 before 21; 6 before 1
-  pub size_before_span : BuiltAnswered case_a readings_a (tanks 0 1 1) (span 51 50) (BuiltAnswer.Refused Refusal.BuiltSize) → ⊥
-  pub data_before_size : BuiltAnswered no_flow readings_a (tanks 1 1 0) (span 50 180) (BuiltAnswer.Refused Refusal.PlantData) → ⊥
-  pub grid_before_data : BuiltAnswered no_flow readings_a (uncovered_at 199) (span 50 180) (BuiltAnswer.Refused Refusal.OffGrid) → ⊥
+  pub size_before_span : BuiltAnswered case_a readings_a (tanks 0 1 1) (span 51 50) (Err Refusal.BuiltSize) → ⊥
+  pub data_before_size : BuiltAnswered no_flow readings_a (tanks 1 1 0) (span 50 180) (Err Refusal.PlantData) → ⊥
+  pub grid_before_data : BuiltAnswered no_flow readings_a (uncovered_at 199) (span 50 180) (Err Refusal.OffGrid) → ⊥
 
 pub wrong_tanks : WrongTanks
 unfolding steps span_valid sizes_positive operated_on_grid built_rules accept_built

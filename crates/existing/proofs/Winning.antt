@@ -1,18 +1,18 @@
 -- An index is won exactly where the fraction keeps its rules, which do not know the index, and the tank of some return ratio wins; and
 -- the rules of the call, in their order, by their tests. Assumes nothing.
-use mathlib.Core.Logic.{◌↔◌, ◌⊎◌, inl, inr}
+use mathlib.Core.Logic.{◌↔◌}
 use mathlib.Core.Path.{◌≡◌, refl, sym, ap, subst, ◌∙◌}
 use mathlib.Core.Bool.{Bool, true, false, cond, ◌&&◌}
 use mathlib.Core.List.{List, [], ◌∷◌}
-use Prim.Native.Nat.{ℕ, ◌+◌, ◌≤◌, ◌<◌}
-use native.Mathlib.Nat.{eq-or-lt_of_le}
+use Prim.Native.Nat.{ℕ}
 use native.Mathlib.Omega.{arith}
 use lib.Dec.{T, leb, leb→le}
 use lib.Ieee.Fits.{and_i, and_l, and_r}
+use Rattle.std.specs.Prelude.{Ok, Err, Option, Some, None, is_ok}
 use Rattle.rules.specs.Limits.{least_fraction, most_fraction, least_time, most_time}
 use Rattle.rules.specs.Rules.{Rule, rule, all_kept, verdict, after}
 use Rattle.rules.specs.PlantData.{within}
-use Rattle.rules.specs.Ranges.{Index, GridFraction, GridTime, PlantRanges, ConcentrationRanges}
+use Rattle.rules.specs.Ranges.{GridFraction, GridTime, PlantRanges, ConcentrationRanges}
 use Rattle.rules.specs.Accepting.{values_of, data_rules, accept_by, accept}
 use Rattle.rules.specs.ReactorSteps.{reactor_of, reactor_solids, reactor_volume}
 use Rattle.rules.specs.SettlingSteps.{settling_of}
@@ -27,12 +27,10 @@ use Rattle.rules.specs.declared.Settling.{Settling}
 use Rattle.rules.specs.declared.Existing.{Existing}
 use Rattle.rules.specs.declared.IndexSpan.{IndexSpan}
 use Rattle.rules.specs.declared.Refusal.{Refusal}
-use Rattle.rules.specs.declared.Verdict.{Verdict}
-use Rattle.rules.specs.declared.Acceptance.{Acceptance}
-use Rattle.rules.specs.declared.BuiltAnswer.{BuiltAnswer}
+use Rattle.rules.specs.Results.{Verdict, Acceptance}
 use Rattle.rules.proofs.Tests.{within_between}
 use Rattle.rules.proofs.RangeFacts.{grid_ranges}
-use Rattle.rules.proofs.RuleLists.{all_kept_verdict, kept_not_broken, verdict_append, kept_append}
+use Rattle.rules.proofs.RuleLists.{verdict_append, kept_append}
 use Rattle.rules.proofs.AcceptedData.{accepted_kept, none_due_ranges}
 use Rattle.rules.proofs.Examined.{FractionKept, Keeps, permitted_keeps}
 use Rattle.rules.proofs.ExistingLaws.{reactor_at_index, fraction_rules_at_index}
@@ -40,44 +38,44 @@ use Rattle.existing.specs.Tanks.{sizes_fit, tank_wins, WonAt, SpanTried}
 
 -- ---- the rules of the call
 
--- what the data's answer leaves to 6
-abbrev then_grid : Acceptance → Bool → Acceptance
-then_grid (Acceptance.Refused n) g = Acceptance.Refused n
-then_grid (Acceptance.Accepted x) g = cond g (Acceptance.Accepted x) (Acceptance.Refused Refusal.OffGrid)
+-- a verdict that is broken stands, and one that is kept leaves what comes after it
+abbrev first_kept : Verdict → Acceptance → Acceptance
+first_kept (Ok u) later = later
+first_kept (Err n) later = Err n
 
--- 20, 21, the data's answer and 6, by their tests
-abbrev pub built_by : Bool → Bool → Acceptance → Bool → Acceptance
-built_by span sizes told grid =
-    cond span (cond sizes (then_grid told grid) (Acceptance.Refused Refusal.BuiltSize)) (Acceptance.Refused Refusal.Span)
+-- what is accepted, once a last verdict is kept
+abbrev last_kept : Acceptance → Verdict → Acceptance
+last_kept (Err n) v = Err n
+last_kept (Ok x) (Ok u) = Ok x
+last_kept (Ok x) (Err n) = Err n
 
-pub accept_by_lem :
-    (p : Plant) (r : Readings) (e : Existing) (span : IndexSpan) (s z g : Bool) (told : Acceptance)
-    → span_valid span ≡ s
-    → sizes_positive e ≡ z
-    → accept p r ≡ told
-    → operated_on_grid e ≡ g
-    → accept_built p r e span ≡ built_by s z told g
+-- 20, 21, the data's answer and 6, in turn
+pub in_turn :
+    (p : Plant) (r : Readings) (e : Existing) (span : IndexSpan)
+    → accept_built p r e span
+    ≡ first_kept (cond (span_valid span) (Ok tt) (Err Refusal.Span))
+    (first_kept (cond (sizes_positive e) (Ok tt) (Err Refusal.BuiltSize))
+    (last_kept (accept p r) (cond (operated_on_grid e) (Ok tt) (Err Refusal.OffGrid))))
 unfolding accept_built built_rules accept accept_by
-accept_by_lem p r e span s z g told hs hz hd hg =
-    rw (hs, hz, hg, verdict_append (data_rules p r) (rule Refusal.OffGrid g ∷ [])) (rw (← hd) (go s z g (verdict (data_rules p r))))
+in_turn p r e span =
+    rw (verdict_append (data_rules p r) (rule Refusal.OffGrid (operated_on_grid e) ∷ []))
+    (go (span_valid span) (sizes_positive e) (operated_on_grid e) (verdict (data_rules p r)))
   where
-    x : Concentrations
-    x = values_of p r
-
     go :
         (s z g : Bool) (v : Verdict)
-        → accept_by (cond s (cond z (after v (cond g Verdict.Kept (Verdict.Broken Refusal.OffGrid))) (Verdict.Broken Refusal.BuiltSize)) (Verdict.Broken Refusal.Span)) x
-        ≡ built_by s z (accept_by v x) g
+        → accept_by (cond s (cond z (after v (cond g (Ok tt) (Err Refusal.OffGrid))) (Err Refusal.BuiltSize)) (Err Refusal.Span)) (values_of p r)
+        ≡ first_kept (cond s (Ok tt) (Err Refusal.Span))
+        (first_kept (cond z (Ok tt) (Err Refusal.BuiltSize)) (last_kept (accept_by v (values_of p r)) (cond g (Ok tt) (Err Refusal.OffGrid))))
     go false z g v = refl
     go true false g v = refl
-    go true true g (Verdict.Broken n) = refl
-    go true true true Verdict.Kept = refl
-    go true true false Verdict.Kept = refl
+    go true true g (Err n) = refl
+    go true true true (Ok u) = refl
+    go true true false (Ok u) = refl
 
 -- what is accepted keeps 20 and 6 and is in its ranges
 pub built_accepted :
     (p : Plant) (r : Readings) (e : Existing) (span : IndexSpan) (x : Concentrations)
-    → accept_built p r e span ≡ Acceptance.Accepted x
+    → accept_built p r e span ≡ Ok x
     → PlantRanges p × ConcentrationRanges x × T (operated_on_grid e) × T (span_valid span)
 unfolding accept_built built_rules
 built_accepted p r e span x h =
@@ -89,60 +87,33 @@ built_accepted p r e span x h =
 
 -- ---- the tank of a return ratio
 
--- a test that counts only where a verdict is kept
-abbrev pub if_kept : Verdict → Bool → Bool
-if_kept Verdict.Kept b = b
-if_kept (Verdict.Broken n) b = false
-
-kept_and : (l : List Rule) (b : Bool) → (all_kept l && b) ≡ if_kept (verdict l) b
-kept_and [] b = refl
-kept_and (r ∷ later) b = go r.kept (kept_and later b)
+-- rules are all kept where the verdict on them is
+verdict_kept : (l : List Rule) → all_kept l ≡ is_ok (verdict l)
+verdict_kept [] = refl
+verdict_kept (r ∷ later) = go r.kept (verdict_kept later)
   where
-    go : (k : Bool) → (all_kept later && b) ≡ if_kept (verdict later) b → ((k && all_kept later) && b) ≡ if_kept (cond k (verdict later) (Verdict.Broken r.refusal)) b
+    go : (k : Bool) → all_kept later ≡ is_ok (verdict later) → (k && all_kept later) ≡ is_ok (cond k (verdict later) (Err r.refusal))
     go true h = h
     go false h = refl
 
-pub tank_by_lem :
+-- so the tank wins where the verdict on its rules is kept and what it needs is built
+pub tank_by_verdict :
     (p : Plant) (e : Existing) (mass ratio : ℕ) (s : Settling) (v : Verdict)
     → s ≡ settling_of p ratio e.thickening
     → v ≡ verdict (tank_rules p s)
-    → tank_wins p e mass ratio ≡ if_kept v (sizes_fit e (reactor_volume mass (reactor_solids p.process s.solids)) s.surface s.depth)
+    → tank_wins p e mass ratio ≡ (is_ok v && sizes_fit e (reactor_volume mass (reactor_solids p.process s.solids)) s.surface s.depth)
 unfolding tank_wins
-tank_by_lem p e mass ratio s v hs hv = rw (← hs, hv) (kept_and (tank_rules p s) (sizes_fit e (reactor_volume mass (reactor_solids p.process s.solids)) s.surface s.depth))
+tank_by_verdict p e mass ratio s v hs hv = rw (← hs, hv, verdict_kept (tank_rules p s))
 
--- ---- loops
-
--- what holds of every number from one on, below another, holds with one more
-pub one_more : (P : ℕ → Type 0) (low n : ℕ) → ((i : ℕ) → low ≤ i → i < n → P i) → P n → (i : ℕ) → low ≤ i → i < n + 1 → P i
-one_more P low n before here i least less = go (eq-or-lt_of_le (omega (arith, less)))
-  where
-    go : (i ≡ n) ⊎ (i < n) → P i
-    go (inl same) = subst P (sym same) here
-    go (inr below) = before i least below
+-- and the fraction keeps its rules where the verdict on them is kept
+pub fraction_by_verdict :
+    (p : Plant) (x : Concentrations) (f : ℕ) (r : Reactor) (v : Verdict)
+    → r ≡ reactor_of p x f
+    → v ≡ verdict (fraction_rules p x r)
+    → all_kept (fraction_rules p x (reactor_of p x f)) ≡ is_ok v
+fraction_by_verdict p x f r v hr hv = rw (← hr, hv, verdict_kept (fraction_rules p x r))
 
 -- ---- an index
-
--- a plant in its ranges is so at every index of a sludge that does not bulk
-pub ranges_at_index : (index : ℕ) (p : Plant) → PlantRanges p → Index index → PlantRanges (with_index index p)
-unfolding with_index
-ranges_at_index index p r i =
-    record {
-      load = r.load;
-      flow = r.flow;
-      wet = r.wet;
-      design = r.design;
-      aeration = r.aeration;
-      index = i;
-      nitrate = r.nitrate;
-      phosphorus = r.phosphorus;
-      carbon_peak = r.carbon_peak;
-      nitrogen_peak = r.nitrogen_peak;
-      saturation = r.saturation;
-      surface = r.surface;
-      depth = r.depth;
-      dose = r.dose;
-      consent = r.consent;
-    }
 
 -- the fraction and the thickening time that keep 6
 pub operated_ranges : (e : Existing) → T (operated_on_grid e) → GridFraction e.fraction × GridTime e.thickening
@@ -221,29 +192,28 @@ won_by_tank index p x e mass grid fraction h = (forth, back)
 
 -- what was tried with the tanks is what is held or lost
 pub tried_held :
-    (p : Plant) (x : Concentrations) (e : Existing) (span : IndexSpan) (mass : ℕ) (a : BuiltAnswer)
+    (p : Plant) (x : Concentrations) (e : Existing) (span : IndexSpan) (mass : ℕ) (a : Option ℕ)
     → T (operated_on_grid e)
     → FractionKept p x e.fraction
     → mass ≡ (reactor_of p x e.fraction).mass
     → SpanTried p e mass span a
-    → HeldOrLost p x e span a
-tried_held p x e span mass BuiltAnswer.Held grid fraction h tried = λ i within. (won_by_tank i p x e mass grid fraction h).0 (tried i within)
-tried_held p x e span mass (BuiltAnswer.Lost index) grid fraction h tried =
+    → HeldOrLost p x e span (Ok a)
+tried_held p x e span mass None grid fraction h tried = λ i within. (won_by_tank i p x e mass grid fraction h).0 (tried i within)
+tried_held p x e span mass (Some index) grid fraction h tried =
     record {
       member = tried.member;
       lost = λ w. tried.lost ((won_by_tank index p x e mass grid fraction h).1 w);
       smaller = λ i within less. (won_by_tank i p x e mass grid fraction h).0 (tried.smaller i within less);
     }
-tried_held p x e span mass (BuiltAnswer.Refused n) grid fraction h tried = absurd tried
 
 -- where the fraction breaks a rule, the least index of the span is lost
 pub least_lost :
-    (p : Plant) (x : Concentrations) (e : Existing) (span : IndexSpan) (n : Refusal)
+    (p : Plant) (x : Concentrations) (e : Existing) (span : IndexSpan)
     → T (span_valid span)
-    → verdict (fraction_rules p x (reactor_of p x e.fraction)) ≡ Verdict.Broken n
+    → all_kept (fraction_rules p x (reactor_of p x e.fraction)) ≡ false
     → SmallestLost p x e span span.least
 unfolding span_valid wins
-least_lost p x e span n valid broken =
+least_lost p x e span valid broken =
     record {
       member = (omega arith, leb→le span.least span.most (and_l (leb span.least span.most) _ valid));
       lost = lost;
@@ -255,5 +225,4 @@ least_lost p x e span n valid broken =
         let q = with_index span.least p in
         let y = operated e ratio in
         let keeps = (permitted_keeps q x y).0 (and_l (permitted q x y) (fits_existing e (sheet_of q x y)) t) in
-        let kept = (fraction_at_index span.least p x e.fraction).0 keeps.fraction in
-        kept_not_broken n (sym broken ∙ (all_kept_verdict (fraction_rules p x (reactor_of p x e.fraction))).0 kept)
+        subst T broken ((fraction_at_index span.least p x e.fraction).0 keeps.fraction)

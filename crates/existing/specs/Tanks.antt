@@ -1,5 +1,5 @@
 -- The tank's part of an index that is won: what depends on the index and the return ratio. Assumes nothing.
-use Rattle.std.specs.Prelude.{ℕ, ◌≤◌, ◌<◌, Bool, true, false, ◌&&◌, T, leb}
+use Rattle.std.specs.Prelude.{ℕ, ◌≤◌, ◌<◌, Bool, true, false, ◌&&◌, T, leb, Option, Some, None}
 use Rattle.rules.specs.Limits.{least_ratio}
 use Rattle.rules.specs.Rules.{all_kept}
 use Rattle.rules.specs.AgeNitrate.{largest_return_ratio}
@@ -11,7 +11,6 @@ use Rattle.rules.specs.Existing.{InSpan}
 use Rattle.rules.specs.declared.Plant.{Plant}
 use Rattle.rules.specs.declared.Existing.{Existing}
 use Rattle.rules.specs.declared.IndexSpan.{IndexSpan}
-use Rattle.rules.specs.declared.BuiltAnswer.{BuiltAnswer}
 
 -- reactor volume, surface and depth are built
 abbrev pub sizes_fit : Existing → ℕ → ℕ → ℕ → Bool
@@ -44,7 +43,6 @@ pub record FirstLost (p : Plant) (e : Existing) (mass : ℕ) (span : IndexSpan) 
   pub lost : WonAt p e mass index → ⊥
   pub smaller : (i : ℕ) → InSpan span i → i < index → WonAt p e mass i
 
-abbrev pub SpanTried : Plant → Existing → ℕ → IndexSpan → BuiltAnswer → Type 0
-SpanTried p e mass span BuiltAnswer.Held = (i : ℕ) → InSpan span i → WonAt p e mass i
-SpanTried p e mass span (BuiltAnswer.Lost index) = FirstLost p e mass span index
-SpanTried p e mass span (BuiltAnswer.Refused n) = ⊥
+abbrev pub SpanTried : Plant → Existing → ℕ → IndexSpan → Option ℕ → Type 0
+SpanTried p e mass span None = (i : ℕ) → InSpan span i → WonAt p e mass i
+SpanTried p e mass span (Some index) = FirstLost p e mass span index

@@ -4,8 +4,9 @@ use mathlib.Core.List.{List, [], ◌∷◌}
 use Prim.Native.Nat.{ℕ}
 use borrow.Author.Tests.{eqb-false}
 use lib.ListN.{take, drop, replicate}
-use Rattle.rules.specs.Answers.{verdict_number}
-use Rattle.rules.specs.Explanations.{explanation_number, explanation_figures, explained_figures}
+use Rattle.std.specs.Prelude.{Result, Err}
+use Rattle.rules.specs.Answers.{answer_number}
+use Rattle.rules.specs.Explanations.{explanation_figures, explained_figures}
 use Rattle.rules.specs.Explaining.{explain}
 use Rattle.rules.specs.Consent.{no_term}
 use Rattle.rules.specs.WithoutDose.{with_dose}
@@ -16,28 +17,28 @@ use Rattle.rules.specs.declared.Consent.{Consent}
 use Rattle.rules.specs.declared.Readings.{Readings}
 use Rattle.rules.specs.declared.Candidate.{Candidate}
 use Rattle.rules.specs.declared.Refusal.{Refusal}
-use Rattle.rules.specs.declared.Explanation.{Explanation}
 use Rattle.rules.proofs.Computing.{steps}
+use Rattle.rules.specs.declared.Explained.{Explained}
 
 -- an explainer's answer differs from the definition's somewhere
-abbrev Wrong : (Plant → Readings → Candidate → Explanation) → Type 0
+abbrev Wrong : (Plant → Readings → Candidate → Result Explained Refusal) → Type 0
 Wrong answer = ((p : Plant) (r : Readings) (y : Candidate) → answer p r y ≡ explain p r y) → ⊥
 
 -- it refuses every candidate: Case A's has figures
-pub always_off_grid : Wrong (λ p r y. Explanation.Refused Refusal.OffGrid)
+pub always_off_grid : Wrong (λ p r y. Err Refusal.OffGrid)
 unfolding steps
-always_off_grid e = eqb-false 6 0 refl (ap explanation_number (e case_a readings_a (candidate 300 75 20)))
+always_off_grid e = eqb-false 6 0 refl (ap answer_number (e case_a readings_a (candidate 300 75 20)))
 
 -- it explains one candidate whatever is asked: the return ratio 50 has another depth
 pub one_candidate_explained : Wrong (λ p r y. explain p r (candidate 300 75 20))
 unfolding steps
-one_candidate_explained e = eqb-false 4_536 3_956 refl (ap (λ (x : Explanation). (explanation_figures x).depth) (e case_a readings_a (candidate 300 50 20)))
+one_candidate_explained e = eqb-false 4_536 3_956 refl (ap (λ (x : Result Explained Refusal). (explanation_figures x).depth) (e case_a readings_a (candidate 300 50 20)))
 
 abbrev verdict_at : ℕ → ℕ
-verdict_at f = verdict_number (explanation_figures (explain case_a readings_a (candidate f 75 20))).verdict
+verdict_at f = answer_number (explanation_figures (explain case_a readings_a (candidate f 75 20))).verdict
 
 -- it finds no rule broken where one is: the fraction 299 is not covered
-pub verdict_always_kept : (explanation_number (explain case_a readings_a (candidate 299 75 20)) ≡ 0) × (verdict_at 299 ≡ 7)
+pub verdict_always_kept : (answer_number (explain case_a readings_a (candidate 299 75 20)) ≡ 0) × (verdict_at 299 ≡ 7)
 unfolding steps
 verdict_always_kept = (refl, refl)
 
@@ -59,10 +60,12 @@ abbrev cold : Consent
 cold =
     record {
       count = 1;
-      first = record { first = record { month = 11; day = 1 }; last = record { month = 4; day = 30 }; temperature = 11; nitrate_target = 12_000 };
-      second = no_term;
-      third = no_term;
-      fourth = no_term;
+      terms =
+          record { first = record { month = 11; day = 1 }; last = record { month = 4; day = 30 }; temperature = 11; nitrate_target = 12_000 }
+          ∷ no_term
+          ∷ no_term
+          ∷ no_term
+          ∷ [];
     }
 
 -- it shows the design's columns for a term's, leaves the dose out there, or looks past the count

@@ -1,176 +1,76 @@
-// The calls for C, which `interface_c` exports: a request's bytes in; out the answer's number, its listing or its figures on a
-// page that the caller lends, and the number of bytes written there.
+// The calls that `interface_c` exports: a request's bytes in; out the answer's number, its listing or its figures on a page that the
+// caller lends, and the number of bytes written there; or what is wrong with a malformed request, and nothing is written.
 #![tactic(auto)]
 
-ghost use Rattle.std.specs.Prelude.{◌≡◌, ◌≤◌, length};
-ghost use Rattle.rules.specs.Limits.{most_lines};
-ghost use Rattle.rules.specs.Answers.{verdict_number, target_number, target_value};
-ghost use Rattle.rules.specs.Explanations.{explanation_number, explanation_figures};
-ghost use Rattle.rules.specs.DayLog.{load_number, load_of};
-ghost use Rattle.putting.specs.Outcomes.{outcome};
-ghost use Rattle.resuming.specs.States.{started_on, resumed, AdvancedOn, looked_on};
-ghost use Rattle.standing.specs.Tanks.{BuiltOn};
-ghost use Rattle.quoting.specs.Quotes.{ChosenAndPriced, examined_and_priced};
-ghost use Rattle.interface.specs.Calls.{examined, Choosing, works_put, WorksAsked, LineAsked, figured, explained, counts_put, censused, target_put, targeted, loaded};
+ghost use Rattle.std.specs.Prelude.{◌≡◌, Ok};
+ghost use Rattle.rules.specs.Explanations.{explained_figures, explanation_figures};
+ghost use Rattle.rules.specs.DayLog.{load_of};
+ghost use Rattle.putting.specs.Replies.{replied};
+ghost use Rattle.interface.specs.Calls.{examined, Choosing, works_put, WorksAsked, LineAsked, figured, explained, counts_put, censused, targeted, loaded};
 
-use request::{Decoded, DecodedInquiry};
-use rules::{
-    Candidate, Census, Explained, Explanation, LoadAnswer, TargetAnswer, TermExplained,
-    TwoWeekLoad, Verdict, Works,
-};
+use putting::Reply;
+use request::Fault;
+use rules::{ANSWER_NUMBERS, Explained, Refusal, Works};
 
-// How many figures a works has: eight sums, and fifteen for each of eight lines.
-const WORKS_FIGURES: usize = 128;
+// How many figures an explanation has: nine, and five for each of four terms.
+const EXPLAINED_FIGURES: usize = 29;
 
-// Examines the candidate of a request. A malformed request is answered by 101 to 103, and nothing is written.
-pub fn pewgull_examine(request: &[u8], page: &mut [u8], written: &mut u64) -> u32
-    ensures { outcome result page.new written.new ≡ examined request.now page.old }
+// Examines the candidate of a request.
+#[tactic(auto, unfolding(crate::specs::Calls::examined, putting::specs::Outcomes::on_data))]
+pub fn examine(request: &[u8], page: &mut [u8]) -> Result<Reply, Fault>
+    ensures { replied result page.new ≡ examined request.now page.old }
 {
-    match request::decode(request, request::CANDIDATE_WORDS) {
-        Decoded::Malformed(fault) => {
-            *written = 0;
-            request::fault_number(fault)
-        }
-        Decoded::Data(data) => {
-            let plant = data.plant;
-            let readings = data.readings;
-            let candidate = request::candidate(request);
-            putting::put(pewgull::examine(plant, readings, candidate), page, written)
-        }
+    let data = request::decode(request, request::CANDIDATE_WORDS)?;
+    let candidate = request::candidate(request);
+    let answer = pewgull::examine(data.plant, data.readings, candidate);
+    Ok(putting::put(answer, page))
+}
+
+// Chooses for the data of a request.
+pub fn choose(request: &[u8], page: &mut [u8]) -> Result<Reply, Fault>
+    ensures { Choosing request.now page.old (replied result page.new) }
+{
+    let data = request::decode(request, 0)?;
+    Ok(putting::put(pewgull::choose(data.plant, data.readings), page))
+}
+
+// Writes the figures of a works on the page: zeros where it is refused.
+fn put_works(answer: Result<Works, Refusal>, page: &mut [u8]) -> Reply
+    ensures { replied (Ok result) page.new ≡ works_put answer page.old }
+{
+    let mut figures = [0; works::WORKS_FIGURES];
+    if let Ok(works) = answer {
+        works::figures(works, &mut figures);
     }
+    putting::put_figures(answer, &figures, page)
 }
 
-// Chooses for the data of a request. A malformed request is answered by 101 to 103, and nothing is written.
-pub fn pewgull_choose(request: &[u8], page: &mut [u8], written: &mut u64) -> u32
-    ensures { Choosing request.now page.old (outcome result page.new written.new) }
+// Chooses for every line of the works of a request.
+pub fn works(request: &[u8], page: &mut [u8]) -> Result<Reply, Fault>
+    ensures { WorksAsked request.now page.old (replied result page.new) }
 {
-    match request::decode(request, 0) {
-        Decoded::Malformed(fault) => {
-            *written = 0;
-            request::fault_number(fault)
-        }
-        Decoded::Data(data) => {
-            let plant = data.plant;
-            let readings = data.readings;
-            putting::put(pewgull::choose(plant, readings), page, written)
-        }
-    }
+    let data = request::decode(request, request::WORKS_WORDS)?;
+    let split = request::split(request);
+    Ok(put_works(pewgull::works(data.plant, data.readings, split), page))
 }
 
-// Writes the figures of a works on the page, and gives its number.
-fn put_works(works: Works, page: &mut [u8], written: &mut u64) -> u32
-    requires { length works.sheets ≡ most_lines }
-    ensures { outcome result page.new written.new ≡ works_put works page.old }
+// Gives one line's own answer for the works of a request.
+pub fn line(request: &[u8], page: &mut [u8]) -> Result<Reply, Fault>
+    ensures { LineAsked request.now page.old (replied result page.new) }
 {
-    let verdict = works.verdict;
-    let number = verdict_number(verdict) as u32;
-    let mut figures = [0u64; WORKS_FIGURES];
-    works::figures(works, &mut figures);
-    putting::put_figures(number, &figures, page, written)
+    let data = request::decode(request, request::LINE_WORDS)?;
+    let split = request::split(request);
+    let number = request::line_number(request);
+    let answer = pewgull::line(data.plant, data.readings, split, number);
+    Ok(putting::put(answer, page))
 }
 
-// Chooses for every line of the works of a request. A malformed request is answered by 101 to 103, and nothing is written.
-pub fn pewgull_works(request: &[u8], page: &mut [u8], written: &mut u64) -> u32
-    ensures { WorksAsked request.now page.old (outcome result page.new written.new) }
+// The figures of an explanation in their order.
+fn explained_figures(explained: &Explained) -> [u64; EXPLAINED_FIGURES]
+    ensures { result ≡ explained_figures explained.now }
 {
-    match request::decode(request, request::WORKS_WORDS) {
-        Decoded::Malformed(fault) => {
-            *written = 0;
-            request::fault_number(fault)
-        }
-        Decoded::Data(data) => {
-            let plant = data.plant;
-            let readings = data.readings;
-            let split = request::split(request);
-            put_works(pewgull::works(plant, readings, split), page, written)
-        }
-    }
-}
-
-// Gives one line's own answer for the works of a request. A malformed request is answered by 101 to 103, and nothing is written.
-pub fn pewgull_line(request: &[u8], page: &mut [u8], written: &mut u64) -> u32
-    ensures { LineAsked request.now page.old (outcome result page.new written.new) }
-{
-    match request::decode(request, request::LINE_WORDS) {
-        Decoded::Malformed(fault) => {
-            *written = 0;
-            request::fault_number(fault)
-        }
-        Decoded::Data(data) => {
-            let plant = data.plant;
-            let readings = data.readings;
-            let split = request::split(request);
-            let number = request::line_number(request);
-            putting::put(pewgull::line(plant, readings, split, number), page, written)
-        }
-    }
-}
-
-// The paper's number of an explanation: 0 where it has figures.
-fn explanation_number(explanation: Explanation) -> u32
-    ensures { result ≡ explanation_number explanation }
-{
-    match explanation {
-        Explanation::Figures(_) => 0,
-        Explanation::Refused(refusal) => putting::refusal_number(refusal),
-    }
-}
-
-// The figures of an explanation: zeros where it is refused.
-fn explanation_figures(explanation: Explanation) -> Explained
-    ensures { result ≡ explanation_figures explanation }
-{
-    match explanation {
-        Explanation::Figures(figures) => figures,
-        Explanation::Refused(_) => {
-            let no_term = TermExplained {
-                aerobic_share: 0,
-                fraction: 0,
-                denitrified: 0,
-                removed_by_bod: 0,
-                removable: 0,
-            };
-            Explained {
-                denitrified: 0,
-                removed_by_bod: 0,
-                removed_by_dose: 0,
-                removable: 0,
-                solids: 0,
-                sludge_volume: 0,
-                surface: 0,
-                depth: 0,
-                verdict: Verdict::Kept,
-                first: no_term,
-                second: no_term,
-                third: no_term,
-                fourth: no_term,
-            }
-        }
-    }
-}
-
-// The paper's number of a verdict: 0 where every rule is kept.
-fn verdict_number(verdict: Verdict) -> u64
-    ensures { result ≡ verdict_number verdict }
-{
-    match verdict {
-        Verdict::Kept => 0,
-        Verdict::Broken(refusal) => listing::refusal_number(refusal),
-    }
-}
-
-// Writes the figures of an explanation on the page, and gives its number.
-fn put_explanation(explanation: Explanation, page: &mut [u8], written: &mut u64) -> u32
-    ensures { outcome result page.new written.new ≡ figured explanation page.old }
-{
-    let number = explanation_number(explanation);
-    let explained = explanation_figures(explanation);
-    let verdict = explained.verdict;
-    let first = explained.first;
-    let second = explained.second;
-    let third = explained.third;
-    let fourth = explained.fourth;
-    let figures = [
+    let mut figures = [0; EXPLAINED_FIGURES];
+    let first = [
         explained.denitrified,
         explained.removed_by_bod,
         explained.removed_by_dose,
@@ -179,215 +79,77 @@ fn put_explanation(explanation: Explanation, page: &mut [u8], written: &mut u64)
         explained.sludge_volume,
         explained.surface,
         explained.depth,
-        verdict_number(verdict),
-        first.aerobic_share,
-        first.fraction,
-        first.denitrified,
-        first.removed_by_bod,
-        first.removable,
-        second.aerobic_share,
-        second.fraction,
-        second.denitrified,
-        second.removed_by_bod,
-        second.removable,
-        third.aerobic_share,
-        third.fraction,
-        third.denitrified,
-        third.removed_by_bod,
-        third.removable,
-        fourth.aerobic_share,
-        fourth.fraction,
-        fourth.denitrified,
-        fourth.removed_by_bod,
-        fourth.removable,
+        listing::answer_number(explained.verdict),
     ];
-    putting::put_figures(number, &figures, page, written)
-}
-
-// Explains the candidate of a request. A malformed request is answered by 101 to 103, and nothing is written.
-pub fn pewgull_explain(request: &[u8], page: &mut [u8], written: &mut u64) -> u32
-    ensures { outcome result page.new written.new ≡ explained request.now page.old }
-{
-    match request::decode(request, request::CANDIDATE_WORDS) {
-        Decoded::Malformed(fault) => {
-            *written = 0;
-            request::fault_number(fault)
-        }
-        Decoded::Data(data) => {
-            let plant = data.plant;
-            let readings = data.readings;
-            let candidate = request::candidate(request);
-            put_explanation(pewgull::explain(plant, readings, candidate), page, written)
-        }
+    words::store(&mut figures, 0, &first);
+    for (i, term) in explained.terms.iter().enumerate() {
+        let row = [
+            term.aerobic_share,
+            term.fraction,
+            term.denitrified,
+            term.removed_by_bod,
+            term.removable,
+        ];
+        words::store(&mut figures, 9 + 5 * i, &row);
     }
+    figures
 }
 
-// Writes the counts of a census on the page, and gives its number.
-fn put_census(census: Census, page: &mut [u8], written: &mut u64) -> u32
-    requires { census.number ≤ 255 }
-    ensures { outcome result page.new written.new ≡ counts_put census page.old }
+// Writes the figures of an explanation on the page: zeros where it is refused.
+fn put_explanation(answer: Result<Explained, Refusal>, page: &mut [u8]) -> Reply
+    ensures { replied (Ok result) page.new ≡ figured answer page.old }
 {
-    let number = census.number as u32;
-    let counts = census.counts;
-    putting::put_figures(number, &counts, page, written)
+    let figures = match answer {
+        Ok(explained) => explained_figures(&explained),
+        Err(_) => [0; EXPLAINED_FIGURES],
+    };
+    putting::put_figures(answer, &figures, page)
 }
 
-// The census of the grid for the data of a request. A malformed request is answered by 101 to 103, and nothing is written.
-pub fn pewgull_census(request: &[u8], page: &mut [u8], written: &mut u64) -> u32
-    ensures { outcome result page.new written.new ≡ censused request.now page.old }
+// Explains the candidate of a request.
+#[tactic(auto, unfolding(crate::specs::Calls::explained, putting::specs::Outcomes::on_data))]
+pub fn explain(request: &[u8], page: &mut [u8]) -> Result<Reply, Fault>
+    ensures { replied result page.new ≡ explained request.now page.old }
 {
-    match request::decode(request, 0) {
-        Decoded::Malformed(fault) => {
-            *written = 0;
-            request::fault_number(fault)
-        }
-        Decoded::Data(data) => {
-            let plant = data.plant;
-            let readings = data.readings;
-            put_census(pewgull::census(plant, readings), page, written)
-        }
-    }
+    let data = request::decode(request, request::CANDIDATE_WORDS)?;
+    let candidate = request::candidate(request);
+    let answer = pewgull::explain(data.plant, data.readings, candidate);
+    Ok(put_explanation(answer, page))
 }
 
-// The number of a date's answer: 0 where terms and date are valid.
-fn target_number(answer: TargetAnswer) -> u32
-    ensures { result ≡ target_number answer }
+// Writes the counts of a census on the page: zeros where it is refused.
+fn put_census(answer: Result<[u64; ANSWER_NUMBERS], Refusal>, page: &mut [u8]) -> Reply
+    ensures { replied (Ok result) page.new ≡ counts_put answer page.old }
 {
-    match answer {
-        TargetAnswer::InForce(_) => 0,
-        TargetAnswer::NoTerm => 0,
-        TargetAnswer::Refused(refusal) => putting::refusal_number(refusal),
-    }
+    let counts = answer.unwrap_or([0; ANSWER_NUMBERS]);
+    putting::put_figures(answer, &counts, page)
 }
 
-// The target of a date's answer: 0 where no term runs, and where it is refused.
-fn target_value(answer: TargetAnswer) -> u64
-    ensures { result ≡ target_value answer }
+// The census of the grid for the data of a request.
+#[tactic(auto, unfolding(crate::specs::Calls::censused, putting::specs::Outcomes::on_data))]
+pub fn census(request: &[u8], page: &mut [u8]) -> Result<Reply, Fault>
+    ensures { replied result page.new ≡ censused request.now page.old }
 {
-    match answer {
-        TargetAnswer::InForce(target) => target as u64,
-        TargetAnswer::NoTerm => 0,
-        TargetAnswer::Refused(_) => 0,
-    }
+    let data = request::decode(request, 0)?;
+    Ok(put_census(pewgull::census(data.plant, data.readings), page))
 }
 
-// Writes the target of a date's answer on the page, in eight bytes, and gives its number.
-fn put_target(answer: TargetAnswer, page: &mut [u8], written: &mut u64) -> u32
-    ensures { outcome result page.new written.new ≡ target_put answer page.old }
+// The lowest target in force for the terms and the date of a request, or 0.
+#[tactic(auto, unfolding(crate::specs::Calls::targeted))]
+pub fn target(request: &[u8], page: &mut [u8]) -> Result<Reply, Fault>
+    ensures { replied result page.new ≡ targeted request.now page.old }
 {
-    let number = target_number(answer);
-    let target = target_value(answer);
-    putting::put_figures(number, &[target], page, written)
+    let inquiry = request::decode_inquiry(request)?;
+    let answer = pewgull::target_on(inquiry.consent, inquiry.date);
+    Ok(putting::put_value(answer, page))
 }
 
-// The lowest target in force for the terms and the date of a request. A malformed request is answered by 101 or 102, and
-// nothing is written.
-pub fn pewgull_target(request: &[u8], page: &mut [u8], written: &mut u64) -> u32
-    ensures { outcome result page.new written.new ≡ targeted request.now page.old }
-{
-    match request::decode_inquiry(request) {
-        DecodedInquiry::Malformed(fault) => {
-            *written = 0;
-            request::fault_number(fault)
-        }
-        DecodedInquiry::Inquiry(inquiry) => {
-            let consent = inquiry.consent;
-            let date = inquiry.date;
-            put_target(pewgull::target_on(consent, date), page, written)
-        }
-    }
-}
-
-// The number of a day log's answer: 0 where it has a load.
-fn load_number(answer: LoadAnswer) -> u32
-    ensures { result ≡ load_number answer }
-{
-    match answer {
-        LoadAnswer::Load(_) => 0,
-        LoadAnswer::Refused(refusal) => putting::refusal_number(refusal),
-    }
-}
-
-// The load of a day log's answer: sum 0 and day 0 where it is refused.
-fn load_of(answer: LoadAnswer) -> TwoWeekLoad
-    ensures { result ≡ load_of answer }
-{
-    match answer {
-        LoadAnswer::Load(load) => load,
-        LoadAnswer::Refused(_) => TwoWeekLoad { sum: 0, day: 0 },
-    }
-}
-
-// The highest two-week load of a day log: its sum and its day on the page, in eight bytes each.
-pub fn pewgull_load(log: &[u8], page: &mut [u8], written: &mut u64) -> u32
-    ensures { outcome result page.new written.new ≡ loaded log.now page.old }
+// The highest two-week load of a day log: its sum and its day on the page, in eight bytes each; zeros where the log is refused.
+#[tactic(auto, unfolding(crate::specs::Calls::loaded, rules::specs::DayLog::load_of))]
+pub fn load(log: &[u8], page: &mut [u8]) -> Reply
+    ensures { replied (Ok result) page.new ≡ loaded log.now page.old }
 {
     let answer = pewgull::load(log);
-    let number = load_number(answer);
-    let load = load_of(answer);
-    putting::put_figures(number, &[load.sum, load.day], page, written)
-}
-
-// Starts a sweep on the data of a request, and writes its state. A malformed request is answered by 101 to 103, refused data by their
-// usual number, and nothing is written.
-pub fn pewgull_sweep_start(request: &[u8], state: &mut [u8], written: &mut u64) -> u32
-    ensures { outcome result state.new written.new ≡ started_on request.now state.old }
-{
-    resuming::start(request, state, written)
-}
-
-// Advances the sweep of a state by so many candidates. A malformed state is answered by 101 to 103, and nothing is changed.
-pub fn pewgull_sweep_advance(
-    state: &mut [u8],
-    candidates: u32,
-    page: &mut [u8],
-    written: &mut u64,
-) -> u32
-    ensures { AdvancedOn state.old candidates page.old (resumed result state.new page.new written.new) }
-{
-    resuming::advance(state, candidates, page, written)
-}
-
-// Examines a candidate for the data of a state, which is only read. A malformed state is answered by 101 to 103, and nothing is written.
-pub fn pewgull_sweep_examine(
-    state: &[u8],
-    fraction: u32,
-    return_ratio: u32,
-    thickening: u32,
-    page: &mut [u8],
-    written: &mut u64,
-) -> u32
-    ensures { outcome result page.new written.new
-        ≡ looked_on state.now (record { fraction = fraction; return_ratio = return_ratio; thickening = thickening }) page.old }
-{
-    let candidate = Candidate {
-        fraction,
-        return_ratio,
-        thickening,
-    };
-    resuming::examine(state, candidate, page, written)
-}
-
-// Whether the existing tanks of a request hold at each sludge volume index of a span: 0 on the page, or the smallest index lost. A
-// malformed request is answered by 101 to 103, and nothing is written.
-pub fn pewgull_built(request: &[u8], page: &mut [u8], written: &mut u64) -> u32
-    ensures { BuiltOn request.now page.old (outcome result page.new written.new) }
-{
-    standing::built(request, page, written)
-}
-
-// The design chosen for the data of a request, and its price by the request's tariff. A malformed request is answered by 101 to 103, and
-// nothing is written.
-pub fn pewgull_price_choose(request: &[u8], page: &mut [u8], written: &mut u64) -> u32
-    ensures { ChosenAndPriced request.now page.old (outcome result page.new written.new) }
-{
-    quoting::choose(request, page, written)
-}
-
-// The sheet of the candidate of a request, and its price by the request's tariff. A malformed request is answered by 101 to 103, and
-// nothing is written.
-pub fn pewgull_price_examine(request: &[u8], page: &mut [u8], written: &mut u64) -> u32
-    ensures { outcome result page.new written.new ≡ examined_and_priced request.now page.old }
-{
-    quoting::examine(request, page, written)
+    let load = answer.unwrap_or_default();
+    putting::put_figures(answer, &[load.sum, load.day], page)
 }

@@ -1,5 +1,5 @@
-// The calls for C under their own names, each with the contract of the call of `interface` that it hands on to: a request's bytes in;
-// out the answer's number, its listing or its figures on a page that the caller lends, and the number of bytes written there.
+// The calls for C: a request's bytes in; out the answer's number, its listing or its figures on a page that the caller lends, and the
+// number of bytes written there. C asks for a function of its own for each call, and for a number beside a count.
 #![tactic(auto)]
 
 ghost use Rattle.std.specs.Prelude.{◌≡◌};
@@ -9,12 +9,14 @@ ghost use Rattle.standing.specs.Tanks.{BuiltOn};
 ghost use Rattle.quoting.specs.Quotes.{ChosenAndPriced, examined_and_priced};
 ghost use Rattle.interface.specs.Calls.{examined, Choosing, WorksAsked, LineAsked, explained, censused, targeted, loaded};
 
+use rules::Candidate;
+
 // Examines the candidate of a request. A malformed request is answered by 101 to 103, and nothing is written.
 #[unsafe(no_mangle)]
 pub extern "C" fn pewgull_examine(request: &[u8], page: &mut [u8], written: &mut u64) -> u32
     ensures { outcome result page.new written.new ≡ examined request.now page.old }
 {
-    interface::pewgull_examine(request, page, written)
+    putting::finish(interface::examine(request, page), written)
 }
 
 // Chooses for the data of a request. A malformed request is answered by 101 to 103, and nothing is written.
@@ -22,7 +24,7 @@ pub extern "C" fn pewgull_examine(request: &[u8], page: &mut [u8], written: &mut
 pub extern "C" fn pewgull_choose(request: &[u8], page: &mut [u8], written: &mut u64) -> u32
     ensures { Choosing request.now page.old (outcome result page.new written.new) }
 {
-    interface::pewgull_choose(request, page, written)
+    putting::finish(interface::choose(request, page), written)
 }
 
 // Chooses for every line of the works of a request. A malformed request is answered by 101 to 103, and nothing is written.
@@ -30,7 +32,7 @@ pub extern "C" fn pewgull_choose(request: &[u8], page: &mut [u8], written: &mut 
 pub extern "C" fn pewgull_works(request: &[u8], page: &mut [u8], written: &mut u64) -> u32
     ensures { WorksAsked request.now page.old (outcome result page.new written.new) }
 {
-    interface::pewgull_works(request, page, written)
+    putting::finish(interface::works(request, page), written)
 }
 
 // Gives one line's own answer for the works of a request. A malformed request is answered by 101 to 103, and nothing is written.
@@ -38,7 +40,7 @@ pub extern "C" fn pewgull_works(request: &[u8], page: &mut [u8], written: &mut u
 pub extern "C" fn pewgull_line(request: &[u8], page: &mut [u8], written: &mut u64) -> u32
     ensures { LineAsked request.now page.old (outcome result page.new written.new) }
 {
-    interface::pewgull_line(request, page, written)
+    putting::finish(interface::line(request, page), written)
 }
 
 // Explains the candidate of a request. A malformed request is answered by 101 to 103, and nothing is written.
@@ -46,7 +48,7 @@ pub extern "C" fn pewgull_line(request: &[u8], page: &mut [u8], written: &mut u6
 pub extern "C" fn pewgull_explain(request: &[u8], page: &mut [u8], written: &mut u64) -> u32
     ensures { outcome result page.new written.new ≡ explained request.now page.old }
 {
-    interface::pewgull_explain(request, page, written)
+    putting::finish(interface::explain(request, page), written)
 }
 
 // The census of the grid for the data of a request. A malformed request is answered by 101 to 103, and nothing is written.
@@ -54,7 +56,7 @@ pub extern "C" fn pewgull_explain(request: &[u8], page: &mut [u8], written: &mut
 pub extern "C" fn pewgull_census(request: &[u8], page: &mut [u8], written: &mut u64) -> u32
     ensures { outcome result page.new written.new ≡ censused request.now page.old }
 {
-    interface::pewgull_census(request, page, written)
+    putting::finish(interface::census(request, page), written)
 }
 
 // The lowest target in force for the terms and the date of a request. A malformed request is answered by 101 or 102, and
@@ -63,7 +65,7 @@ pub extern "C" fn pewgull_census(request: &[u8], page: &mut [u8], written: &mut 
 pub extern "C" fn pewgull_target(request: &[u8], page: &mut [u8], written: &mut u64) -> u32
     ensures { outcome result page.new written.new ≡ targeted request.now page.old }
 {
-    interface::pewgull_target(request, page, written)
+    putting::finish(interface::target(request, page), written)
 }
 
 // The highest two-week load of a day log: its sum and its day on the page, in eight bytes each.
@@ -71,7 +73,7 @@ pub extern "C" fn pewgull_target(request: &[u8], page: &mut [u8], written: &mut 
 pub extern "C" fn pewgull_load(log: &[u8], page: &mut [u8], written: &mut u64) -> u32
     ensures { outcome result page.new written.new ≡ loaded log.now page.old }
 {
-    interface::pewgull_load(log, page, written)
+    putting::finish(Ok(interface::load(log, page)), written)
 }
 
 // Starts a sweep on the data of a request, and writes its state. A malformed request is answered by 101 to 103, refused data by their
@@ -80,7 +82,7 @@ pub extern "C" fn pewgull_load(log: &[u8], page: &mut [u8], written: &mut u64) -
 pub extern "C" fn pewgull_sweep_start(request: &[u8], state: &mut [u8], written: &mut u64) -> u32
     ensures { outcome result state.new written.new ≡ started_on request.now state.old }
 {
-    interface::pewgull_sweep_start(request, state, written)
+    putting::finish(resuming::start(request, state), written)
 }
 
 // Advances the sweep of a state by so many candidates. A malformed state is answered by 101 to 103, and nothing is changed.
@@ -93,7 +95,7 @@ pub extern "C" fn pewgull_sweep_advance(
 ) -> u32
     ensures { AdvancedOn state.old candidates page.old (resumed result state.new page.new written.new) }
 {
-    interface::pewgull_sweep_advance(state, candidates, page, written)
+    putting::finish(resuming::advance(state, candidates, page), written)
 }
 
 // Examines a candidate for the data of a state, which is only read. A malformed state is answered by 101 to 103, and nothing is written.
@@ -109,7 +111,12 @@ pub extern "C" fn pewgull_sweep_examine(
     ensures { outcome result page.new written.new
         ≡ looked_on state.now (record { fraction = fraction; return_ratio = return_ratio; thickening = thickening }) page.old }
 {
-    interface::pewgull_sweep_examine(state, fraction, return_ratio, thickening, page, written)
+    let candidate = Candidate {
+        fraction,
+        return_ratio,
+        thickening,
+    };
+    putting::finish(resuming::examine(state, candidate, page), written)
 }
 
 // Whether the existing tanks of a request hold at each sludge volume index of a span: 0 on the page, or the smallest index lost. A
@@ -118,7 +125,7 @@ pub extern "C" fn pewgull_sweep_examine(
 pub extern "C" fn pewgull_built(request: &[u8], page: &mut [u8], written: &mut u64) -> u32
     ensures { BuiltOn request.now page.old (outcome result page.new written.new) }
 {
-    interface::pewgull_built(request, page, written)
+    putting::finish(standing::built(request, page), written)
 }
 
 // The design chosen for the data of a request, and its price by the request's tariff. A malformed request is answered by 101 to 103, and
@@ -127,7 +134,7 @@ pub extern "C" fn pewgull_built(request: &[u8], page: &mut [u8], written: &mut u
 pub extern "C" fn pewgull_price_choose(request: &[u8], page: &mut [u8], written: &mut u64) -> u32
     ensures { ChosenAndPriced request.now page.old (outcome result page.new written.new) }
 {
-    interface::pewgull_price_choose(request, page, written)
+    putting::finish(quoting::choose(request, page), written)
 }
 
 // The sheet of the candidate of a request, and its price by the request's tariff. A malformed request is answered by 101 to 103, and
@@ -136,5 +143,5 @@ pub extern "C" fn pewgull_price_choose(request: &[u8], page: &mut [u8], written:
 pub extern "C" fn pewgull_price_examine(request: &[u8], page: &mut [u8], written: &mut u64) -> u32
     ensures { outcome result page.new written.new ≡ examined_and_priced request.now page.old }
 {
-    interface::pewgull_price_examine(request, page, written)
+    putting::finish(quoting::examine(request, page), written)
 }

@@ -3,51 +3,34 @@ use mathlib.Core.Path.{◌≡◌}
 use mathlib.Core.List.{List, [], ◌∷◌, ◌++◌}
 use Prim.Native.Nat.{ℕ, ◌+◌, ◌≤◌, ◌<◌}
 use native.Mathlib.Numerals.{add-one}
-use native.Mathlib.Omega.{arith}
-use lib.ListN.{length, get_or, drop, length-append, drop_of_length-le}
+use lib.ListN.{length, get_or, drop, drop_of_length-le}
+pub use lib.ListN.{length-append}
 use lib.Seq.{drop-cons}
 use borrow.Author.Tests.{eq-eqb, ne_eqb}
+pub use Rattle.std.proofs.lemmas.List.{nil_from_length}
 use Rattle.rules.specs.Listing.{numeral}
-use Rattle.listing.specs.Forms.{filled, marks}
+use Rattle.listing.specs.Forms.{filled}
+pub use Rattle.listing.proofs.Page.{sets-append}
 
--- at a mark: the next figure's numeral, and one mark less
-pub record AtMark (form figures : List ℕ) (i k : ℕ) : Type 0 where
-  pub bytes : filled (drop i form) k figures ≡ numeral (get_or figures k 0) ++ filled (drop (i + 1) form) (k + 1) figures
-  pub count :
-      length (filled (drop i form) k figures)
-      ≡ length (numeral (get_or figures k 0)) + length (filled (drop (i + 1) form) (k + 1) figures)
-  pub left : marks (drop i form) ≡ marks (drop (i + 1) form) + 1
+module _ (form figures : List ℕ) (i : ℕ) where
+  -- at a mark: the next figure's numeral
+  pub at_mark :
+      i < length form → get_or form i 0 ≡ 35
+      → filled (drop i form) figures ≡ numeral (get_or figures 0 0) ++ filled (drop (i + 1) form) (drop 1 figures)
+  unfolding filled
+  at_mark inside e = rw (drop-cons form i 0 inside, add-one i, filled, eq-eqb (get_or form i 0) 35 e)
 
--- at any other byte: itself, and as many marks
-pub record AtByte (form figures : List ℕ) (i k : ℕ) : Type 0 where
-  pub bytes : filled (drop i form) k figures ≡ get_or form i 0 ∷ filled (drop (i + 1) form) k figures
-  pub count : length (filled (drop i form) k figures) ≡ length (filled (drop (i + 1) form) k figures) + 1
-  pub left : marks (drop i form) ≡ marks (drop (i + 1) form)
+  -- at any other byte: itself
+  pub at_byte :
+      i < length form → (get_or form i 0 ≡ 35 → ⊥)
+      → filled (drop i form) figures ≡ get_or form i 0 ∷ filled (drop (i + 1) form) figures
+  unfolding filled
+  at_byte inside e = rw (drop-cons form i 0 inside, add-one i, filled, ne_eqb (get_or form i 0) 35 e)
 
-module _ (form figures : List ℕ) (i k : ℕ) (inside : i < length form) where
-  pub at_mark : get_or form i 0 ≡ 35 → AtMark form figures i k
-  unfolding filled marks
-  at_mark e =
-      let f : filled (drop i form) k figures ≡ numeral (get_or figures k 0) ++ filled (drop (i + 1) form) (k + 1) figures =
-      rw (drop-cons form i 0 inside, add-one i, filled, eq-eqb (get_or form i 0) 35 e) in
-      record {
-        bytes = f;
-        count = rw (f, length-append);
-        left = rw (drop-cons form i 0 inside, add-one i, marks, eq-eqb (get_or form i 0) 35 e) (omega arith);
-      }
+  -- nothing at the end
+  pub at_end : length form ≤ i → filled (drop i form) figures ≡ []
+  unfolding filled
+  at_end end = rw (drop_of_length-le form end)
 
-  pub at_byte : (get_or form i 0 ≡ 35 → ⊥) → AtByte form figures i k
-  unfolding filled marks
-  at_byte e =
-      let f : filled (drop i form) k figures ≡ get_or form i 0 ∷ filled (drop (i + 1) form) k figures =
-      rw (drop-cons form i 0 inside, add-one i, filled, ne_eqb (get_or form i 0) 35 e) in
-      record {
-        bytes = f;
-        count = rw f (omega arith);
-        left = rw (drop-cons form i 0 inside, add-one i, marks, ne_eqb (get_or form i 0) 35 e);
-      }
-
--- nothing is left at the end
-pub filled_end : (form figures : List ℕ) (i k : ℕ) → length form ≤ i → filled (drop i form) k figures ≡ []
-unfolding filled
-filled_end form figures i k end = rw (drop_of_length-le form end)
+-- for a loop over a form that counts or writes it
+pub ruleset filling = (at_mark, at_byte, at_end, nil_from_length, length-append, sets-append)

@@ -1,32 +1,25 @@
 -- The two forms, filled in, are the listings: line by line, since a listing is its lines one after the other.
 -- Assumes nothing.
-use mathlib.Core.Path.{◌≡◌, sym, ◌∙◌}
-use mathlib.Core.List.{List, [], ◌∷◌, ◌++◌, append_assoc, append-nil}
+use mathlib.Core.Path.{◌≡◌, refl, sym}
+use mathlib.Core.List.{List, [], ◌∷◌, ◌++◌, append_assoc}
 use Prim.Native.Nat.{ℕ}
 use Prim.Native.String.{String}
+use Rattle.std.specs.Prelude.{Ok, Err}
 use Rattle.rules.specs.Answers.{refusal_number, sheet_figures}
 use Rattle.rules.specs.Listing.{text, numeral, line, sheet_listing, listing}
 use Rattle.rules.specs.declared.Sheet.{Sheet}
 use Rattle.rules.specs.declared.Refusal.{Refusal}
-use Rattle.rules.specs.declared.Answer.{Answer}
 use Rattle.listing.specs.Forms.{filled}
 
--- lines after some bytes, and by themselves, from their labels and their figures
-unfoldable after : List ℕ → List String → List ℕ → List ℕ
-after bytes [] figures = bytes
-after bytes (label ∷ labels) [] = bytes
-after bytes (label ∷ labels) (n ∷ figures) = after (bytes ++ line label n) labels figures
-
+-- lines one after the other, from their labels and their figures
 unfoldable lined : List String → List ℕ → List ℕ
 lined [] figures = []
 lined (label ∷ labels) [] = []
 lined (label ∷ labels) (n ∷ figures) = text label ++ (32 ∷ (numeral n ++ (10 ∷ lined labels figures)))
 
-after_lined : (bytes : List ℕ) (labels : List String) (figures : List ℕ) → after bytes labels figures ≡ bytes ++ lined labels figures
-unfolding after lined line
-after_lined bytes [] figures = sym (append-nil bytes)
-after_lined bytes (label ∷ labels) [] = sym (append-nil bytes)
-after_lined bytes (label ∷ labels) (n ∷ figures) = after_lined (bytes ++ line label n) labels figures ∙ simp append_assoc
+line_parts : (label : String) (n : ℕ) → line label n ≡ text label ++ (32 ∷ (numeral n ++ (10 ∷ [])))
+unfolding line
+line_parts label n = append_assoc (text label) (32 ∷ numeral n) (10 ∷ [])
 
 -- the form of lines with some labels: label, space, mark, newline
 unfoldable pub formed : List String → List ℕ
@@ -59,19 +52,16 @@ sheet_form = formed sheet_labels
 unfoldable pub refused_form : List ℕ
 refused_form = formed ("refused" ∷ [])
 
-sheet_listed : (s : Sheet) → filled sheet_form 0 (sheet_figures s) ≡ listing (Answer.Designed s)
-unfolding filled sheet_form formed sheet_labels sheet_figures text after lined sheet_listing listing
-sheet_listed s = sym (after_lined [] sheet_labels (sheet_figures s))
+-- with a sheet's figures
+sheet_lined : (s : Sheet) → sheet_listing s ≡ lined sheet_labels (sheet_figures s)
+unfolding sheet_listing lined sheet_labels sheet_figures
+sheet_lined s = simp (append_assoc, line_parts)
 
--- a sheet's form, with its figures, is the listing of an answer that is the sheet
-pub sheet_filled :
-    (answer : Answer) (s : Sheet) (figures : List ℕ) → answer ≡ Answer.Designed s → figures ≡ sheet_figures s
-    → filled sheet_form 0 figures ≡ listing answer
-sheet_filled answer s figures a f = rw (a, f) (sheet_listed s)
+pub sheet_filled : (s : Sheet) → filled sheet_form (sheet_figures s) ≡ listing (Ok s)
+unfolding filled sheet_form formed sheet_labels sheet_figures text lined listing
+sheet_filled s = sym (sheet_lined s)
 
--- a refusal's form, with its number, is the listing of an answer that is the refusal
-pub refused_filled :
-    (answer : Answer) (n : Refusal) (k : ℕ) → answer ≡ Answer.Refused n → k ≡ refusal_number n
-    → filled refused_form 0 (k ∷ []) ≡ listing answer
+-- with a refusal's number first, whatever figures follow
+pub refused_filled : (n : Refusal) (rest : List ℕ) → filled refused_form (refusal_number n ∷ rest) ≡ listing (Err n)
 unfolding filled refused_form formed text line listing
-refused_filled answer n k a e = rw (a, e)
+refused_filled n rest = refl

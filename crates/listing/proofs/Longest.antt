@@ -5,10 +5,11 @@ use Prim.Native.Nat.{ℕ, ◌+◌, ◌^◌, ◌≤◌, ◌<◌}
 use Prim.Native.String.{String}
 use native.Mathlib.Omega.{arith}
 use lib.ListN.{length, length-append}
+use Rattle.std.specs.Prelude.{Ok, Err}
 use Rattle.rules.specs.Answers.{refusal_number}
 use Rattle.rules.specs.Listing.{text, line, sheet_listing, listing}
 use Rattle.rules.specs.declared.Sheet.{Sheet}
-use Rattle.rules.specs.declared.Answer.{Answer}
+use Rattle.rules.specs.Results.{Answer}
 use Rattle.rules.proofs.Numeral.{numeral_length}
 use Rattle.rules.proofs.RuleOrder.{refusal_number_most}
 
@@ -60,10 +61,10 @@ sheet_most s w =
 
 -- an answer as the type holds it
 abbrev pub Answer64 : Answer → Type 0
-Answer64 (Answer.Designed s) = Figures64 s
-Answer64 (Answer.Refused n) = Unit {0}
+Answer64 (Ok s) = Figures64 s
+Answer64 (Err n) = Unit {0}
 
 pub listing_most : (a : Answer) → Answer64 a → length (listing a) ≤ 432
 unfolding listing text
-listing_most (Answer.Designed s) w = sheet_most s w
-listing_most (Answer.Refused n) w = omega (arith, line_most "refused" (refusal_number n) 7 refl (omega (arith, refusal_number_most n)))
+listing_most (Ok s) w = sheet_most s w
+listing_most (Err n) w = omega (arith, line_most "refused" (refusal_number n) 7 refl (omega (arith, refusal_number_most n)))

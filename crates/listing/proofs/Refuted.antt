@@ -5,15 +5,14 @@ use mathlib.Core.List.{List, [], ◌∷◌, ◌++◌}
 use Prim.Native.Nat.{ℕ}
 use lib.ListN.{get_or, replicate}
 use borrow.Author.Tests.{eqb-false}
-use Rattle.rules.specs.Answers.{refusal_number, written_number}
+use Rattle.std.specs.Prelude.{Err}
+use Rattle.rules.specs.Answers.{refusal_number, answer_number}
 use Rattle.rules.specs.Listing.{text, digits, numeral, line, listing, writing, page_after}
 use Rattle.rules.specs.declared.Refusal.{Refusal}
-use Rattle.rules.specs.declared.Answer.{Answer}
-use Rattle.rules.specs.declared.Written.{Written}
 
 -- the page that writing "refused 9" leaves of n zeros
 unfoldable pub nine : ℕ → List ℕ
-nine n = page_after (listing (Answer.Refused Refusal.Surface)) (replicate n 0)
+nine n = page_after (listing (Err Refusal.Surface)) (replicate n 0)
 
 -- nothing written where it fits, to the last byte
 pub not_untouched : replicate 10 0 ≡ nine 10 → ⊥
@@ -36,9 +35,9 @@ unfolding text digits numeral
 no_leading_zero e = eqb-false 48 57 refl (ap (λ (l : List ℕ). get_or l 0 0) e)
 
 -- every page refused: one of ten bytes takes "refused 9"
-pub not_refused : Written.Refused Refusal.ShortPage ≡ writing (listing (Answer.Refused Refusal.Surface)) (replicate 10 0) → ⊥
-unfolding text digits numeral line listing writing written_number
-not_refused e = eqb-false 11 0 refl (ap written_number e)
+pub not_refused : Err Refusal.ShortPage ≡ writing (listing (Err Refusal.Surface)) (replicate 10 0) → ⊥
+unfolding text digits numeral line listing writing answer_number
+not_refused e = eqb-false 11 0 refl (ap answer_number e)
 
 -- 9 and 10 exchanged
 pub surface_numbered_10 : refusal_number Refusal.Surface ≡ 10 → ⊥

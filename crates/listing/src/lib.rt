@@ -3,44 +3,35 @@
 #![tactic(auto)]
 
 ghost use Rattle.std.specs.Prelude.{◌≡◌, ◌+◌, ◌≤◌, length};
-ghost use Rattle.rules.specs.Answers.{refusal_number, sheet_figures};
+ghost use Rattle.std.proofs.lemmas.List.Edits.{sets};
+ghost use Rattle.rules.specs.Answers.{refusal_number, answer_number, sheet_figures};
 ghost use Rattle.rules.specs.Listing.{listing, numeral};
-ghost use Rattle.listing.specs.Pages.{Writes, over};
-ghost use Rattle.listing.specs.Forms.{filled, marks};
+ghost use Rattle.listing.specs.Pages.{Writes};
+ghost use Rattle.listing.specs.Forms.{filled};
 
-use rules::{Answer, Refusal, Sheet, Written};
+use rules::{Answer, Refusal, Sheet};
 
-// The paper's number of a refusal.
+// The paper's number of a refusal: the number of its variant, under the name of the definition.
 pub fn refusal_number(refusal: Refusal) -> u64
     ensures { result ≡ refusal_number refusal }
 {
-    match refusal {
-        Refusal::PlantData => 1,
-        Refusal::NoNumber => 2,
-        Refusal::ReadingRange => 3,
-        Refusal::CodRatio => 4,
-        Refusal::NoDesign => 5,
-        Refusal::OffGrid => 6,
-        Refusal::Nitrate => 7,
-        Refusal::Solids => 8,
-        Refusal::Surface => 9,
-        Refusal::Depth => 10,
-        Refusal::ShortPage => 11,
-        Refusal::DayLog => 12,
-        Refusal::DayValue => 13,
-        Refusal::Terms => 14,
-        Refusal::Nitrification => 15,
-        Refusal::TermNitrate => 16,
-        Refusal::Bulking => 17,
-        Refusal::Lines => 18,
-        Refusal::Advance => 19,
-        Refusal::Span => 20,
-        Refusal::BuiltSize => 21,
-        Refusal::Tariff => 22,
+    refusal as u64
+}
+
+// The number of an answer, whatever it carries: 0, or that of its refusal.
+#[tactic(auto, using(rules::proofs::RuleOrder::refusal_number_most), unfolding(rules::specs::Answers::answer_number))]
+pub fn answer_number<T: Copy>(answer: Result<T, Refusal>) -> u64
+    ensures value { result ≡ answer_number answer }
+    ensures most { result ≤ 22 }
+{
+    match answer {
+        Ok(_) => 0,
+        Err(refusal) => refusal_number(refusal),
     }
 }
 
 // The fifteen figures of a sheet, in the listing's order.
+#[tactic(auto, unfolding(rules::specs::Answers::sheet_figures))]
 pub fn figures(sheet: Sheet) -> [u64; 15]
     ensures { result ≡ sheet_figures sheet }
 {
@@ -63,7 +54,8 @@ pub fn figures(sheet: Sheet) -> [u64; 15]
     ]
 }
 
-// The number of decimal digits of n.
+// The number of decimal digits of n. What is counted down is the number itself, by tens: the library has no count of digits.
+#[tactic(auto, using(crate::proofs::Digits::counting))]
 fn digit_count(n: u64) -> usize
     ensures { (result ≡ length (numeral n)) × (result ≤ 20) }
 {
@@ -77,19 +69,17 @@ fn digit_count(n: u64) -> usize
 }
 
 // Writes n in decimal at an index of the page, from the last digit to the first, and gives the index after it.
+#[tactic(auto, using(crate::proofs::Digits::writing), unfolding(crate::proofs::Digits::last_digits))]
 fn put_number(page: &mut [u8], at: usize, n: u64) -> usize
     requires { at + length (numeral n) ≤ length page.old }
-    ensures { (result ≡ at + length (numeral n)) × (page.new ≡ over page.old at (numeral n)) }
+    ensures { (result ≡ at + length (numeral n)) × (page.new ≡ sets page.old at (numeral n)) }
 {
     let end = at + digit_count(n);
     let mut rest = n;
-    let mut place = end - 1;
-    'digit: while 9 < rest {
+    for place in (at..end).rev() {
         page[place] = b'0' + (rest % 10) as u8;
         rest /= 10;
-        place -= 1;
     }
-    page[place] = b'0' + rest as u8;
     end
 }
 
@@ -115,45 +105,67 @@ const SHEET_FORM: [u8; 147] = *b"fraction #\n\
 
 const REFUSED_FORM: [u8; 10] = *b"refused #\n";
 
-// The length of a form filled in. i is the form's next byte, and k the next figure.
-fn filled_length(form: &[u8], figures: &[u64]) -> usize
-    requires { (length form.now ≤ 1_000) × (marks form.now ≤ length figures.now) }
-    ensures { result ≡ length (filled form.now 0 figures.now) }
-{
-    let mut count = 0;
-    let mut k = 0;
-    let mut i = 0;
-    'byte: while i < form.len() {
-        let b = form[i];
-        i += 1;
-        if b == MARK {
-            count += digit_count(figures[k]);
-            k += 1;
-        } else {
-            count += 1;
-        }
-    }
-    count
+// A listing before it is written: a form, and the figures that go into it.
+#[derive(Clone, Copy)]
+struct Listing {
+    form: &'static [u8],
+    figures: [u64; 15],
+    ghost form_length: { length form.now ≤ 147 },
 }
 
-// Writes a form, filled in, from the page's start. i is the form's next byte, k the next figure, and at where it goes.
-fn fill(form: &[u8], figures: &[u64], page: &mut [u8])
-    requires form_in_bounds { marks form.now ≤ length figures.now }
-    requires figures_in_bounds { length (filled form.now 0 figures.now) ≤ length page.old }
-    ensures { page.new ≡ over page.old 0 (filled form.now 0 figures.now) }
-{
-    let mut at = 0;
-    let mut k = 0;
-    let mut i = 0;
-    'form: while i < form.len() {
-        let b = form[i];
-        i += 1;
-        if b == MARK {
-            at = put_number(page, at, figures[k]);
-            k += 1;
-        } else {
-            page[at] = b;
-            at += 1;
+impl Listing {
+    // An answer's listing. A refusal's form has a mark for the first figure alone.
+    fn new(answer: Answer) -> Listing
+        ensures { filled result.form.now result.figures ≡ listing answer }
+    {
+        match answer {
+            Ok(sheet) => Listing {
+                form: &SHEET_FORM,
+                figures: figures(sheet),
+            },
+            Err(refusal) => {
+                let mut figures = [0; 15];
+                figures[0] = refusal_number(refusal);
+                Listing {
+                    form: &REFUSED_FORM,
+                    figures,
+                }
+            }
+        }
+    }
+
+    // The listing's length.
+    #[tactic(auto, using(crate::proofs::Filling::filling))]
+    fn length(&self) -> usize
+        ensures { result ≡ length (filled self.now.form.now self.now.figures) }
+    {
+        let mut figures = self.figures.iter();
+        let mut count = 0;
+        for b in self.form {
+            count += if *b == MARK {
+                digit_count(figures.next().copied().unwrap_or(0))
+            } else {
+                1
+            };
+        }
+        count
+    }
+
+    // Writes the listing from the page's start.
+    #[tactic(auto, using(crate::proofs::Filling::filling))]
+    fn fill(&self, page: &mut [u8])
+        requires { length (filled self.now.form.now self.now.figures) ≤ length page.old }
+        ensures { page.new ≡ sets page.old 0 (filled self.now.form.now self.now.figures) }
+    {
+        let mut figures = self.figures.iter();
+        let mut at = 0;
+        for b in self.form {
+            if *b == MARK {
+                at = put_number(page, at, figures.next().copied().unwrap_or(0));
+            } else {
+                page[at] = *b;
+                at += 1;
+            }
         }
     }
 }
@@ -162,32 +174,19 @@ fn fill(form: &[u8], figures: &[u64], page: &mut [u8])
 pub fn length(answer: Answer) -> usize
     ensures { result ≡ length (listing answer) }
 {
-    match answer {
-        Answer::Designed(sheet) => filled_length(&SHEET_FORM, &figures(sheet)),
-        Answer::Refused(refusal) => filled_length(&REFUSED_FORM, &[refusal_number(refusal)]),
-    }
-}
-
-// Writes an answer's listing from the page's start.
-fn put_listing(answer: Answer, page: &mut [u8])
-    requires { length (listing answer) ≤ length page.old }
-    ensures { page.new ≡ over page.old 0 (listing answer) }
-{
-    match answer {
-        Answer::Designed(sheet) => fill(&SHEET_FORM, &figures(sheet), page),
-        Answer::Refused(refusal) => fill(&REFUSED_FORM, &[refusal_number(refusal)], page),
-    }
+    Listing::new(answer).length()
 }
 
 // Writes an answer's listing on a page, where it fits: gives the number of bytes, and leaves the page's later bytes as they
 // were. Where it does not fit, refusal 11, and the page stays as it was.
-pub fn write(answer: Answer, page: &mut [u8]) -> Written
+pub fn write(answer: Answer, page: &mut [u8]) -> Result<usize, Refusal>
     ensures { Writes answer page.old page.new result }
 {
-    let count = length(answer);
+    let listing = Listing::new(answer);
+    let count = listing.length();
     if page.len() < count {
-        return Written::Refused(Refusal::ShortPage);
+        return Err(Refusal::ShortPage);
     }
-    put_listing(answer, page);
-    Written::Bytes(count)
+    listing.fill(page);
+    Ok(count)
 }

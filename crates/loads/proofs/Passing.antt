@@ -2,37 +2,36 @@
 -- answer. Assumes nothing.
 use mathlib.Core.Logic.{◌⊎◌, inl, inr}
 use mathlib.Core.Path.{◌≡◌, refl, sym, ap, ◌∙◌}
-use mathlib.Core.Bool.{Bool, true, false, cond, ◌&&◌}
+use mathlib.Core.Bool.{Bool, true, false, cond}
 use mathlib.Core.List.{List}
 use Prim.Native.Nat.{ℕ, ◌+◌, ◌-◌, ◌%◌, ◌≤◌, ◌<◌, zero-le}
 use native.Mathlib.Nat.{eq-or-lt_of_le}
 use native.Mathlib.Numerals.{add-one}
 use native.Mathlib.Omega.{arith}
-use borrow.Author.Tests.{leb-true, leb-false}
-use denote.Floats.{passes}
-use lib.Dec.{T, leb, ltb}
+use borrow.Author.Tests.{leb-true, leb-false, ltb-false}
+use denote.Floats.{passes, is_true}
+use lib.Dec.{leb, ltb}
 use lib.Ieee.{Float, binary32, of_bits}
 use lib.ListN.{length, get_or, set, length-set, replicate, length-replicate, get_or-replicate}
 use lib.Seq.{get_or-set_same, get_or-set_other}
+use Rattle.std.specs.Prelude.{Ok, Err}
 use Rattle.words.specs.Bytes.{word}
 use Rattle.rules.specs.Sums.{sum_from}
-use Rattle.rules.specs.DayLog.{day_count, day_of, day_kept, days_kept, day_load, window_load, higher, highest_of, windows, log_whole, log_rules, load_by, two_week_load}
+use Rattle.rules.specs.DayLog.{day_count, day_of, days_kept, window_load, higher, highest_of, log_whole, log_rules, load_by, two_week_load}
+use Rattle.rules.specs.DayLogOutcome.{Whole, BrokenDay}
 use Rattle.rules.specs.declared.Refusal.{Refusal}
-use Rattle.rules.specs.declared.LoadAnswer.{LoadAnswer}
-use Rattle.rules.proofs.SumLaws.{sum_most, sum_zero, sum_same}
-use Rattle.rules.proofs.DayLogLaws.{days_kept_lem}
-use Rattle.loads.specs.Windows.{counted_on, most_load, highest_after, oldest, stepped, Room, padded, Passed}
+use Rattle.rules.proofs.SumLaws.{sum_zero}
+use Rattle.rules.proofs.DayLogLaws.{log_whole_lem, days_kept_lem, due_13, load_refused_when_due}
+use Rattle.loads.specs.Windows.{most_load, highest_after, oldest, moved, stepped, Room}
+use Rattle.loads.proofs.Windows.{load_on, padded, Passed}
 use Rattle.loads.specs.declared.Window.{Window}
-use Rattle.loads.proofs.Counting.{counted_load_most, kept_load}
-use Rattle.loads.proofs.Sliding.{slide, first_at_most, padded_none, padded_day, padded_window, highest_step, highest_same}
+use Rattle.loads.proofs.Counting.{load_most, step_given, step_refused}
+use Rattle.loads.proofs.Sliding.{slide, first_at_most, padded_none, padded_day, padded_window, highest_step, sum_bounded}
 
 module _ (log : List ℕ) where
   -- the loads with 14 days before the first, and the sum of a window
   abbrev load : ℕ → ℕ
-  load = padded (counted_on log)
-
-  abbrev window : ℕ → ℕ
-  window d = sum_from d 14 (counted_on log)
+  load = padded (load_on log)
 
   -- a day out of the two arrays
   pub day_read :
@@ -49,120 +48,116 @@ module _ (log : List ℕ) where
 
   -- no day passed
   pub none_passed :
-      Passed log 0 (record { loads = replicate 14 0; sum = 0; days = 0; highest = record { sum = 0; day = 1 }; kept = true })
+      Passed log 0 (record { loads = replicate 14 0; sum = 0; days = 0; highest = record { sum = 0; day = 1 } })
   unfolding highest_of days_kept
   none_passed =
       record {
         size = length-replicate {A = ℕ} 14 0;
         holds = λ j l m.
             let e : j % 14 < 14 = omega arith in
-            get_or-replicate {A = ℕ} 14 (j % 14) 0 0 e ∙ sym (padded_none (counted_on log) j (omega arith));
-        sum = sym (sum_zero 0 14 load (λ j l m. padded_none (counted_on log) j (omega arith)));
+            get_or-replicate {A = ℕ} 14 (j % 14) 0 0 e ∙ sym (padded_none (load_on log) j (omega arith));
+        sum = sym (sum_zero 0 14 load (λ j l m. padded_none (load_on log) j (omega arith)));
         days = refl;
         highest = refl;
         kept = refl;
       }
-
-  load_most : (j : ℕ) → load j ≤ most_load
-  unfolding padded
-  load_most j = go (ltb j 14)
-    where
-      go : (b : Bool) → cond b 0 (counted_on log (j - 13)) ≤ most_load
-      go true = zero-le
-      go false = counted_load_most (day_of log (j - 13))
 
   module _ (n : ℕ) (w : Window) (p : Passed log n w) where
     -- what goes is the load of the day 14 before
     goes : oldest w ≡ load n
     goes = ap (λ (d : ℕ). get_or w.loads (d % 14) 0) p.days ∙ p.holds n (omega arith) (omega arith)
 
+    -- the loads of kept days are in their range, and one more can come in
+    in_range : (j : ℕ) → n ≤ j → j < n + 14 → load j ≤ most_load
+    unfolding padded
+    in_range j l m = go (ltb j 14) refl
+      where
+        go : (b : Bool) → ltb j 14 ≡ b → cond b 0 (load_on log (j - 13)) ≤ most_load
+        go true e = zero-le
+        go false e =
+            let late : 14 ≤ j = ltb-false j 14 e in
+            load_most (day_of log (j - 13)) ((days_kept_lem log n).0 (passes (days_kept log n) p.kept) (j - 13) (omega arith) (omega arith))
+
     pub room : n < 3_660 → Room w
     room few =
         record {
-          sum = omega (arith, p.sum, sum_most n 14 most_load load load_most);
+          sum = omega (arith, p.sum, sum_bounded n 14 most_load load in_range);
           days = omega (arith, p.days);
           oldest = omega (arith, goes, p.sum, first_at_most n 13 load);
         }
 
     -- the load that comes
-    comes : load (n + 14) ≡ counted_on log (n + 1)
-    comes = let e : n + 14 ≡ n + 1 + 13 = omega arith in ap load e ∙ padded_day (counted_on log) (n + 1) (omega arith)
+    comes : load (n + 14) ≡ load_on log (n + 1)
+    comes = let e : n + 14 ≡ n + 1 + 13 = omega arith in ap load e ∙ padded_day (load_on log) (n + 1) (omega arith)
 
-    next_sum : w.sum + counted_on log (n + 1) - oldest w ≡ sum_from (n + 1) 14 load
+    next_sum : w.sum + load_on log (n + 1) - oldest w ≡ sum_from (n + 1) 14 load
     next_sum = omega (arith, goes, comes, p.sum, slide n 14 load)
 
     next_holds :
         (j : ℕ) → n + 1 ≤ j → j < n + 1 + 14
-        → get_or (set w.loads (w.days % 14) (counted_on log (n + 1))) (j % 14) 0 ≡ load j
+        → get_or (set w.loads (w.days % 14) (load_on log (n + 1))) (j % 14) 0 ≡ load j
     next_holds j l m = rw p.days (go (eq-or-lt_of_le within))
       where
         within : j ≤ n + 14
         within = omega arith
 
-        go : (j ≡ n + 14) ⊎ (j < n + 14) → get_or (set w.loads (n % 14) (counted_on log (n + 1))) (j % 14) 0 ≡ load j
+        go : (j ≡ n + 14) ⊎ (j < n + 14) → get_or (set w.loads (n % 14) (load_on log (n + 1))) (j % 14) 0 ≡ load j
         go (inl e) =
             let slot : j % 14 ≡ n % 14 = omega arith in
             let inside : n % 14 < length w.loads = omega (arith, p.size) in
-            rw slot (get_or-set_same w.loads (n % 14) (counted_on log (n + 1)) 0 inside ∙ (sym comes ∙ ap load (sym e)))
+            rw slot (get_or-set_same w.loads (n % 14) (load_on log (n + 1)) 0 inside ∙ (sym comes ∙ ap load (sym e)))
         go (inr less) =
-            get_or-set_other w.loads (n % 14) (j % 14) (counted_on log (n + 1)) 0 (λ e. omega arith)
+            get_or-set_other w.loads (n % 14) (j % 14) (load_on log (n + 1)) 0 (λ e. omega arith)
             ∙ p.holds j (omega arith) less
 
-    next_highest : (s : ℕ) → s ≡ sum_from (n + 1) 14 load → highest_after w.highest s (w.days + 1) ≡ highest_of window (n + 1 - 13)
-    unfolding highest_after
+    next_highest : (s : ℕ) → s ≡ sum_from (n + 1) 14 load → highest_after w.highest s (w.days + 1) ≡ highest_of (window_load log) (n + 1 - 13)
+    unfolding highest_after window_load
     next_highest s e = rw (p.days, p.highest, e) (go (leb 14 (n + 1)) refl)
       where
         go :
             (b : Bool) → leb 14 (n + 1) ≡ b
-            → cond b (higher (highest_of window (n - 13)) (sum_from (n + 1) 14 load) (n + 1 - 13)) (highest_of window (n - 13))
-            ≡ highest_of window (n + 1 - 13)
+            → cond b (higher (highest_of (window_load log) (n - 13)) (sum_from (n + 1) 14 load) (n + 1 - 13)) (highest_of (window_load log) (n - 13))
+            ≡ highest_of (window_load log) (n + 1 - 13)
         go true q =
             let long : 13 ≤ n = omega (arith, leb-true 14 (n + 1) q) in
             let day : n + 1 - 13 ≡ n - 13 + 1 = omega arith in
             let last : n + 1 ≡ n - 13 + 1 + 13 = omega arith in
-            let sum : sum_from (n + 1) 14 load ≡ window (n - 13 + 1) =
-            ap (λ (j : ℕ). sum_from j 14 load) last ∙ padded_window (counted_on log) (n - 13 + 1) 14 (omega arith) in
-            rw (day, sum) (sym (highest_step window (n - 13)))
+            let sum : sum_from (n + 1) 14 load ≡ window_load log (n - 13 + 1) =
+            ap (λ (j : ℕ). sum_from j 14 load) last ∙ padded_window (load_on log) (n - 13 + 1) 14 (omega arith) in
+            rw (day, sum) (sym (highest_step (window_load log) (n - 13)))
         go false q =
             let early : n + 1 < 14 = leb-false 14 (n + 1) q in
             let none : n - 13 ≡ n + 1 - 13 = omega arith in
-            ap (highest_of window) none
+            ap (highest_of (window_load log)) none
 
-    -- one day more is passed
-    pub one_more_passed : Passed log (n + 1) (stepped w (day_of log (n + 1)))
-    unfolding stepped days_kept
-    one_more_passed =
-        record {
-          size = length-set w.loads (w.days % 14) (counted_on log (n + 1)) ∙ p.size;
+    -- one day more is passed, which is kept
+    pub one_more_passed : (v : Window) → Ok v ≡ stepped w (day_of log (n + 1)) → Passed log (n + 1) v
+    unfolding moved days_kept
+    one_more_passed v e =
+        let given = step_given (day_of log (n + 1)) w v e in
+        rw given.1
+        (record {
+          size = length-set w.loads (w.days % 14) (load_on log (n + 1)) ∙ p.size;
           holds = next_holds;
           sum = next_sum;
           days = ap (λ (d : ℕ). d + 1) p.days;
-          highest = next_highest (w.sum + counted_on log (n + 1) - oldest w) next_sum;
-          kept = ap (λ (k : Bool). k && day_kept (day_of log (n + 1))) p.kept ∙ sym (ap (days_kept log) (add-one n));
-        }
+          highest = next_highest (w.sum + load_on log (n + 1) - oldest w) next_sum;
+          kept = ap (days_kept log) (add-one n) ∙ rw (p.kept, given.0);
+        })
+
+    -- a day is refused, and so is the log
+    pub day_refused : Whole log → n < day_count log → (r : Refusal) → Err r ≡ stepped w (day_of log (n + 1)) → Err r ≡ two_week_load log
+    day_refused whole l r e =
+        let refused = step_refused (day_of log (n + 1)) w r e in
+        let broken : BrokenDay log (day_count log) = record { day = n + 1; first = omega arith; last = omega arith; broken = rw refused.0 tt } in
+        rw refused.1 (sym ((load_refused_when_due log Refusal.DayValue).1 ((due_13 log).1 (whole, broken))))
 
   -- the answer of a log that is not whole
-  pub not_whole : log_whole log ≡ false → LoadAnswer.Refused Refusal.DayLog ≡ two_week_load log
+  pub not_whole : log_whole log ≡ false → Err Refusal.DayLog ≡ two_week_load log
   unfolding two_week_load load_by log_rules
   not_whole e = rw e
 
-  module _ (whole : log_whole log ≡ true) (w : Window) (p : Passed log (day_count log) w) where
-    -- of one with a value that is not kept
-    pub not_kept : w.kept ≡ false → LoadAnswer.Refused Refusal.DayValue ≡ two_week_load log
-    unfolding two_week_load load_by log_rules
-    not_kept e = rw (whole, sym p.kept ∙ e)
-
-    -- with every value kept, the loads are counted as they are
-    same_window : T (days_kept log (day_count log)) → (d : ℕ) → 1 ≤ d → d ≤ windows log → window d ≡ window_load log d
-    unfolding window_load
-    same_window t d l m =
-        sum_same d 14 (counted_on log) (λ i. day_load (day_of log i))
-        (λ i a b. kept_load (day_of log i) ((days_kept_lem log (day_count log)).0 t i (omega arith) (omega arith)))
-
-    pub all_kept_lem : w.kept ≡ true → LoadAnswer.Load w.highest ≡ two_week_load log
-    unfolding two_week_load load_by log_rules
-    all_kept_lem e =
-        let kept : days_kept log (day_count log) ≡ true = sym p.kept ∙ e in
-        rw (whole, kept)
-        (ap LoadAnswer.Load
-        (p.highest ∙ highest_same window (window_load log) (windows log) (same_window (passes (days_kept log (day_count log)) kept))))
+  -- and of one whose days are all kept
+  pub all_kept_lem : Whole log → (w : Window) → Passed log (day_count log) w → Ok w.highest ≡ two_week_load log
+  unfolding two_week_load load_by log_rules
+  all_kept_lem whole w p = rw (is_true (log_whole log) ((log_whole_lem log).1 whole), p.kept) (ap Ok p.highest)

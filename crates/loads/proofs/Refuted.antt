@@ -6,24 +6,26 @@ use Prim.Native.Nat.{ℕ, ◌+◌, ◌-◌, ◌*◌, ◌%◌, ◌^◌}
 use native.Mathlib.Omega.{arith}
 use lib.Ieee.{binary32, of_bits}
 use lib.ListN.{length}
+use Rattle.std.specs.Prelude.{Result}
 use Rattle.words.specs.Bytes.{word}
 use Rattle.rules.specs.Sums.{sum_from}
 use Rattle.rules.specs.LabReadings.{thousandths}
-use Rattle.rules.specs.DayLog.{day_count, day_of, day_load, two_week_load, load_number, load_of, load_figures}
+use Rattle.rules.specs.DayLog.{day_count, day_of, day_load, two_week_load, load_of, load_figures}
 use Rattle.rules.specs.DayLogOutcome.{LoadOutcome}
 use Rattle.rules.specs.declared.TwoWeekLoad.{TwoWeekLoad}
-use Rattle.rules.specs.declared.LoadAnswer.{LoadAnswer}
 use Rattle.rules.proofs.Computing.{steps}
 use Rattle.rules.proofs.RuleOrder.{refusal_number_between}
 use Rattle.rules.proofs.DayLogLaws.{load_outcome, load_outcome_once}
 use Rattle.loads.proofs.Worked.{word_bytes, log_of, one, two, nan_bits, steady, high_last, worked_logs, wrapping}
+use Rattle.rules.specs.Answers.{answer_number}
+use Rattle.rules.specs.declared.Refusal.{Refusal}
 
 abbrev load_is : ℕ → ℕ → TwoWeekLoad
 load_is sum day = record { sum = sum; day = day }
 
 -- what keeps the promise is the definition's answer
-right : (log : List ℕ) (n : ℕ) (l : TwoWeekLoad) (a : LoadAnswer) → two_week_load log ≡ a → LoadOutcome log n l → (n ≡ load_number a) × (l ≡ load_of a)
-right log n l a e o = load_outcome_once log n (load_number a) l (load_of a) o (load_outcome log a (sym e))
+right : (log : List ℕ) (n : ℕ) (l : TwoWeekLoad) (a : Result TwoWeekLoad Refusal) → two_week_load log ≡ a → LoadOutcome log n l → (n ≡ answer_number a) × (l ≡ load_of a)
+right log n l a e o = load_outcome_once log n (answer_number a) l (load_of a) o (load_outcome log a (sym e))
 
 -- ---- the window
 
@@ -63,7 +65,7 @@ day_0 log sum (inr o) = let b = refusal_number_between o.refusal in omega (arith
 
 -- 13 before 12: a log with a NaN and a byte too many.
 pub value_before_length : (l : TwoWeekLoad) → LoadOutcome (steady 14 one nan_bits ++ (0 ∷ [])) 13 l → ⊥
-unfolding load_number
+unfolding answer_number
 value_before_length l o = omega (arith, (right _ _ _ _ worked_logs.byte_more o).0)
 
 -- The length computed before the count is tested, in 32 bits: it wraps, and four bytes are as long as their count says.

@@ -1,12 +1,12 @@
 -- Sums over 14 numbers while they slide on by one, and loads with 14 days before the first. Assumes nothing.
 use mathlib.Core.Path.{◌≡◌, refl, ap, ap₂, ◌∙◌}
-use Prim.Native.Nat.{ℕ, zero, suc, ◌+◌, ◌-◌, ◌≤◌, ◌<◌}
+use Prim.Native.Nat.{ℕ, zero, suc, ◌+◌, ◌-◌, ◌*◌, ◌≤◌, ◌<◌}
 use native.Mathlib.Numerals.{add-one}
 use native.Mathlib.Omega.{arith}
 use borrow.Author.Tests.{lt-ltb, le-ltb}
 use Rattle.rules.specs.Sums.{sum_from}
 use Rattle.rules.specs.DayLog.{higher, highest_of}
-use Rattle.loads.specs.Windows.{padded}
+use Rattle.loads.proofs.Windows.{padded}
 
 -- a sum slides on by one: the first summand goes, the one after the last comes
 pub slide : (a n : ℕ) (g : ℕ → ℕ) → sum_from (a + 1) n g + g a ≡ sum_from a n g + g (a + n)
@@ -15,6 +15,12 @@ slide a zero g = let e : a ≡ a + 0 = omega arith in ap (λ (j : ℕ). 0 + g j)
 slide a (suc n) g =
     let here : g (a + 1 + n) ≡ g (a + suc n) = (let e : a + 1 + n ≡ a + suc n = omega arith in ap g e) in
     omega (arith, slide a n g)
+
+-- summands of a range that are bounded
+pub sum_bounded : (a n c : ℕ) (g : ℕ → ℕ) → ((i : ℕ) → a ≤ i → i < a + n → g i ≤ c) → sum_from a n g ≤ n * c
+unfolding sum_from
+sum_bounded a zero c g h = omega arith
+sum_bounded a (suc n) c g h = omega (arith, sum_bounded a n c g (λ i l m. h i l (omega arith)), h (a + n) (omega arith) (omega arith))
 
 -- its first summand is at most the sum
 pub first_at_most : (a n : ℕ) (g : ℕ → ℕ) → g a ≤ sum_from a (suc n) g
@@ -44,12 +50,3 @@ padded_window g d (suc n) h =
 pub highest_step : (w : ℕ → ℕ) (n : ℕ) → highest_of w (n + 1) ≡ higher (highest_of w n) (w (n + 1)) (n + 1)
 unfolding highest_of
 highest_step w n = ap (highest_of w) (add-one n)
-
--- the same windows, the same highest
-pub highest_same : (w v : ℕ → ℕ) (n : ℕ) → ((d : ℕ) → 1 ≤ d → d ≤ n → w d ≡ v d) → highest_of w n ≡ highest_of v n
-unfolding highest_of
-highest_same w v zero e = refl
-highest_same w v (suc n) e =
-    let before = highest_same w v n (λ d l m. e d l (omega arith)) in
-    let here : w (n + 1) ≡ v (n + 1) = e (n + 1) (omega arith) (omega arith) in
-    λ i. higher (before i) (here i) (n + 1)

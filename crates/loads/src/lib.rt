@@ -1,84 +1,71 @@
 // The highest load of a day log over 14 consecutive days, in one pass: each window's sum from the one before.
 #![tactic(auto)]
 
-ghost use Rattle.std.specs.Prelude.{◌≡◌, ◌≤◌};
-ghost use Rattle.rules.specs.DayLog.{day_count, most_flow, most_bod, log_whole, higher, two_week_load};
+ghost use Rattle.std.specs.Prelude.{◌≡◌, ◌≤◌, IfOk};
+ghost use Rattle.rules.specs.DayLog.{day_count, most_flow, log_whole, higher, two_week_load};
 ghost use Rattle.rules.specs.DayLogOutcome.{Whole};
-ghost use Rattle.loads.specs.Windows.{counted_of, day_counted, most_load, highest_after, stepped, Room, Passed};
+ghost use Rattle.loads.specs.Windows.{day_value, kept_load, most_load, highest_after, stepped, Room};
 
-use accepting::Measurement;
-use rules::{Day, LoadAnswer, Refusal, TwoWeekLoad};
+use rules::{Day, Refusal, TwoWeekLoad};
 
 // The largest flow and BOD of a day, thousandths.
 const MOST_FLOW: u64 = 200_000_000;
 
 const MOST_BOD: u64 = 2_000_000;
 
-// A figure as it is counted, 0 where it is refused, and whether it is kept.
-#[derive(Clone, Copy)]
-pub struct Counted {
-    pub figure: u64,
-    pub kept: bool,
-}
-
 // The last 14 days of a pass over the log, and what it has found.
 #[derive(Clone, Copy)]
-pub struct Window {
+struct Window {
     // the days' loads: day d's at (d - 1) % 14, and 0 where there was no day yet
-    pub loads: [u64; 14],
+    loads: [u64; 14],
     // their sum
-    pub sum: u64,
+    sum: u64,
     // how many days were passed
-    pub days: u64,
+    days: u64,
     // the highest load of the windows passed
-    pub highest: TwoWeekLoad,
-    // both values of every day passed are kept
-    pub kept: bool,
+    highest: TwoWeekLoad,
 }
 
-// A value of a day in thousandths.
-fn count_value(x: f32, most: u64) -> Counted
+impl Window {
+    // One day more: its load comes in for that of the day 14 before; 13 where one of its values is refused.
+    fn step(mut self, day: Day) -> Result<Window, Refusal>
+        requires { Room self }
+        ensures { result ≡ stepped self day }
+    {
+        let load = kept_load(day)?;
+        let slot = (self.days % 14) as usize;
+        self.sum = self.sum + load - self.loads[slot];
+        self.loads[slot] = load;
+        self.days += 1;
+        self.highest = highest_after(self.highest, self.sum, self.days);
+        Ok(self)
+    }
+}
+
+// A value of a day in thousandths, or 13 where it is no number or above its limit.
+fn day_value(x: f32, most: u64) -> Result<u64, Refusal>
     requires { most ≤ most_flow }
-    ensures { (result ≡ counted_of most x) × (result.figure ≤ most) }
+    ensures value { result ≡ day_value most x }
+    ensures most { IfOk result (λ n. n ≤ most) }
 {
     match accepting::to_thousandths(x, 1) {
-        Measurement::NoNumber => Counted {
-            figure: 0,
-            kept: false,
-        },
-        Measurement::TooLarge => Counted {
-            figure: 0,
-            kept: false,
-        },
-        Measurement::Thousandths(n) => {
-            if n <= most {
-                Counted {
-                    figure: n,
-                    kept: true,
-                }
-            } else {
-                Counted {
-                    figure: 0,
-                    kept: false,
-                }
-            }
-        }
+        Ok(n) if n <= most => Ok(n),
+        _ => Err(Refusal::DayValue),
     }
 }
 
-// A day's load: 0 where one of its values is refused.
-fn count_day(day: Day) -> Counted
-    ensures { (result ≡ day_counted day) × (result.figure ≤ most_load) }
+// A day's load, or 13 where one of its values is refused.
+fn kept_load(day: Day) -> Result<u64, Refusal>
+    ensures value { result ≡ kept_load day }
+    ensures most { IfOk result (λ n. n ≤ most_load) }
 {
-    let flow = count_value(day.flow, MOST_FLOW);
-    let bod = count_value(day.bod, MOST_BOD);
-    Counted {
-        figure: flow.figure * bod.figure,
-        kept: flow.kept & bod.kept,
-    }
+    let flow = day_value(day.flow, MOST_FLOW)?;
+    let bod = day_value(day.bod, MOST_BOD)?;
+    Ok(flow * bod)
 }
 
 // A later window takes the place of the highest so far if its sum is larger.
+#[tactic(auto, unfolding(rules::specs::DayLog::higher))]
 fn higher(best: TwoWeekLoad, sum: u64, day: u64) -> TwoWeekLoad
     ensures { result ≡ higher best sum day }
 {
@@ -100,52 +87,28 @@ fn highest_after(best: TwoWeekLoad, sum: u64, days: u64) -> TwoWeekLoad
     }
 }
 
-// One day more: its load comes in for that of the day 14 before.
-fn step(window: Window, day: Day) -> Window
-    requires { Room window }
-    ensures { result ≡ stepped window day }
-{
-    let days = window.days;
-    let slot = (days % 14) as usize;
-    let before = window.sum;
-    let kept = window.kept;
-    let highest = window.highest;
-    let mut loads = window.loads;
-    let load = count_day(day);
-    let sum = before + load.figure - loads[slot];
-    loads[slot] = load.figure;
-    Window {
-        loads,
-        sum,
-        days: days + 1,
-        highest: highest_after(highest, sum, days + 1),
-        kept: kept & load.kept,
-    }
-}
-
-// All days of a log, from the first to the last.
-fn pass(log: &[u8], count: usize) -> Window
+// All days of a whole log, from the first to the last: its answer, 13 at the first day that is refused. Document 01 names the form: a
+// `Day` is built from the two arrays at its number and handed to the window's step.
+fn pass(log: &[u8], count: usize) -> Result<TwoWeekLoad, Refusal>
     requires { Whole log.now × (count ≡ day_count log.now) }
-    ensures { Passed log.now count result }
+    ensures { result ≡ two_week_load log.now }
 {
     let mut window = Window {
-        loads: [0u64; 14],
+        loads: [0; 14],
         sum: 0,
         days: 0,
         highest: TwoWeekLoad { sum: 0, day: 1 },
-        kept: true,
     };
     'day: for i in 0..count {
-        let day = Day {
-            flow: words::float(words::word(log, i + 1)),
-            bod: words::float(words::word(log, count + i + 1)),
-        };
-        window = step(window, day);
+        let flow = words::float(words::word(log, i + 1));
+        let bod = words::float(words::word(log, count + i + 1));
+        window = window.step(Day { flow, bod })?;
     }
-    window
+    Ok(window.highest)
 }
 
 // The log has a count in its range, and is as long as it says.
+#[tactic(auto, unfolding(rules::specs::DayLog::log_whole))]
 fn log_whole(log: &[u8]) -> bool
     ensures { result ≡ log_whole log.now }
 {
@@ -153,24 +116,15 @@ fn log_whole(log: &[u8]) -> bool
         return false;
     }
     let count = words::word(log, 0);
-    if !rounding::within(14, 3_660, count) {
-        return false;
-    }
-    log.len() == 4 + 8 * count as usize
+    rounding::within(14, 3_660, count) && log.len() == 4 + 8 * count as usize
 }
 
 // The highest two-week load of a day log: 12 for a log that is not whole, then 13 for a value that is refused.
-pub fn two_week_load(log: &[u8]) -> LoadAnswer
+pub fn two_week_load(log: &[u8]) -> Result<TwoWeekLoad, Refusal>
     ensures { result ≡ two_week_load log.now }
 {
     if !log_whole(log) {
-        return LoadAnswer::Refused(Refusal::DayLog);
+        return Err(Refusal::DayLog);
     }
-    let count = words::word(log, 0) as usize;
-    let window = pass(log, count);
-    if !window.kept {
-        return LoadAnswer::Refused(Refusal::DayValue);
-    }
-    let highest = window.highest;
-    LoadAnswer::Load(highest)
+    pass(log, words::word(log, 0) as usize)
 }

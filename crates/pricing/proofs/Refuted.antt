@@ -7,9 +7,10 @@ use mathlib.Core.List.{List, [], ◌∷◌}
 use Prim.Native.Nat.{ℕ, ◌+◌, ◌*◌, ◌≤◌}
 use native.Mathlib.Omega.{arith}
 use lib.Dec.{leb}
+use Rattle.std.specs.Prelude.{Ok, Err}
 use Rattle.rules.specs.Rounding.{up, down}
 use Rattle.rules.specs.Sums.{sum_from}
-use Rattle.rules.specs.Answers.{empty_sheet, price_number, price_sheet, price_value}
+use Rattle.rules.specs.Answers.{empty_sheet, answer_number, price_sheet, price_value}
 use Rattle.rules.specs.Price.{charged_from, metre_price, volume_price, tanks_price, price_of, limit_before, limits_rise, prices_kept, tariff_valid, priced, examine_priced, ChosenPriced}
 use Rattle.rules.specs.PriceOutcome.{PricedChosen}
 use Rattle.rules.specs.Accepting.{values_of}
@@ -17,14 +18,20 @@ use Rattle.rules.specs.Examining.{sheet_of}
 use Rattle.rules.specs.Cases.{case_a, readings_a, candidate}
 use Rattle.rules.specs.declared.Sheet.{Sheet}
 use Rattle.rules.specs.declared.Tariff.{Tariff}
+use Rattle.rules.specs.declared.Band.{Band}
 use Rattle.rules.specs.declared.Refusal.{Refusal}
-use Rattle.rules.specs.declared.PriceAnswer.{PriceAnswer}
 use Rattle.rules.proofs.Computing.{steps}
 use Rattle.rules.proofs.RuleOrder.{refusal_number_between}
 use Rattle.rules.proofs.PriceLaws.{priced_chosen}
 
+-- bands with these limits and prices, and a tariff of them
+abbrev bands : List ℕ → List ℕ → List Band
+bands [] prices = []
+bands (limit ∷ limits) [] = []
+bands (limit ∷ limits) (price ∷ prices) = record { limit = limit; price = price } ∷ bands limits prices
+
 abbrev tariff : ℕ → List ℕ → List ℕ → ℕ → Tariff
-tariff count limits prices surcharge = record { count = count; limits = limits; prices = prices; surcharge = surcharge }
+tariff count limits prices surcharge = record { count = count; bands = bands limits prices; surcharge = surcharge }
 
 -- two bands, to 2 m3 at 10 cents and then at 7, with a thousandth on top
 abbrev two_bands : Tariff
@@ -92,9 +99,9 @@ pub record WrongPrices : Type 0 where
   pub price_range : tariff_valid (tariff 6 (limits_with 2) (prices_with 1_000_000) 0) ≡ true
   pub surcharge_range : (tariff_valid (tariff 6 (limits_with 2) (prices_with 8) 500) ≡ true) × (tariff_valid (tariff 6 (limits_with 2) (prices_with 8) 501) ≡ false)
   -- 22 after the sheet's own refusals, here 6; and with a refusal no sheet and no price
-  pub tariff_first : examine_priced case_a readings_a (candidate 199 75 20) (tariff 0 (limits_with 2) (prices_with 8) 0) ≡ PriceAnswer.Refused Refusal.OffGrid
-  pub tariff_refused : examine_priced case_a readings_a (candidate 300 75 20) (tariff 0 (limits_with 2) (prices_with 8) 0) ≡ PriceAnswer.Refused Refusal.Tariff
-  pub no_price : (n : Refusal) → (price_sheet (PriceAnswer.Refused n) ≡ empty_sheet) × (price_value (PriceAnswer.Refused n) ≡ 0)
+  pub tariff_first : examine_priced case_a readings_a (candidate 199 75 20) (tariff 0 (limits_with 2) (prices_with 8) 0) ≡ Err Refusal.OffGrid
+  pub tariff_refused : examine_priced case_a readings_a (candidate 300 75 20) (tariff 0 (limits_with 2) (prices_with 8) 0) ≡ Err Refusal.Tariff
+  pub no_price : (n : Refusal) → (price_sheet (Err n) ≡ empty_sheet) × (price_value (Err n) ≡ 0)
 
 pub wrong_prices : WrongPrices
 unfolding steps charged_from metre_price volume_price tanks_price price_of limit_before limits_rise prices_kept tariff_valid priced examine_priced price_sheet price_value
@@ -135,9 +142,9 @@ pub cheaper_rival : (price_of falling (sheet_a 67) ≡ 190_645_920) × (price_of
 unfolding steps charged_from metre_price volume_price tanks_price price_of
 cheaper_rival = (refl, refl)
 
-pub chosen_by_price : (cents : ℕ) → ChosenPriced case_a readings_a falling (PriceAnswer.Priced (record { sheet = sheet_a 67; price = cents })) → ⊥
-unfolding steps price_number price_sheet price_value
-chosen_by_price cents h = go (priced_chosen case_a readings_a falling (PriceAnswer.Priced (record { sheet = sheet_a 67; price = cents })) h)
+pub chosen_by_price : (cents : ℕ) → ChosenPriced case_a readings_a falling (Ok (record { sheet = sheet_a 67; price = cents })) → ⊥
+unfolding steps answer_number price_sheet price_value
+chosen_by_price cents h = go (priced_chosen case_a readings_a falling (Ok (record { sheet = sheet_a 67; price = cents })) h)
   where
     go : PricedChosen case_a readings_a falling 0 (sheet_a 67) cents → ⊥
     go (inl d) = let total : 5_189 ≤ 5_165 = (d.least.rivals (candidate 300 75 20) tt tt).total in omega (arith, total)

@@ -2,58 +2,82 @@
 // there, and the number that goes with them.
 #![tactic(auto)]
 
-ghost use Rattle.std.specs.Prelude.{◌≡◌};
+ghost use Rattle.std.specs.Prelude.{◌≡◌, ℕ, List, Ok};
 ghost use Rattle.rules.specs.Answers.{refusal_number, answer_number};
 ghost use Rattle.words.specs.Bytes.{number_bytes};
-ghost use Rattle.putting.specs.Outcomes.{outcome, put_on, answered};
+ghost use Rattle.putting.specs.Outcomes.{outcome, put_on, answered, value_put};
+ghost use Rattle.putting.specs.Replies.{replied};
 
-use rules::{Answer, Refusal, Written};
+use request::Fault;
+use rules::{Answer, Refusal};
 
-// The paper's number of a refusal.
-pub fn refusal_number(refusal: Refusal) -> u32
-    ensures { result ≡ refusal_number refusal }
-{
-    listing::refusal_number(refusal) as u32
+// What a call gives back besides its page: its number, and how many bytes it wrote. Both numbers are what C is given.
+#[derive(Clone, Copy)]
+pub struct Reply {
+    pub number: u32,
+    pub written: u64,
 }
 
-// The paper's number of an answer: 0 for a sheet.
-pub fn answer_number(answer: Answer) -> u32
-    ensures { result ≡ answer_number answer }
+// A refusal's number, and nothing written: 11 where the page is too short for what would be put on it.
+pub fn refused(refusal: Refusal) -> Reply
+    ensures { (result.number ≡ refusal_number refusal) × (result.written ≡ 0) }
 {
-    match answer {
-        Answer::Designed(_) => 0,
-        Answer::Refused(refusal) => refusal_number(refusal),
+    Reply {
+        number: refusal as u32,
+        written: 0,
     }
 }
 
-// Writes an answer's listing on the page and the number of its bytes in `written`, and gives the answer's number. A page too
-// short for it is answered by 11, and nothing is written.
-pub fn put(answer: Answer, page: &mut [u8], written: &mut u64) -> u32
-    ensures { outcome result page.new written.new ≡ answered answer page.old }
+// Writes an answer's listing on the page. The number is the answer's.
+#[tactic(auto, unfolding(crate::specs::Outcomes::put_on, crate::specs::Outcomes::number_of, rules::specs::Answers::written_count))]
+pub fn put(answer: Answer, page: &mut [u8]) -> Reply
+    ensures { replied (Ok result) page.new ≡ answered answer page.old }
 {
     match listing::write(answer, page) {
-        Written::Bytes(count) => {
-            *written = count as u64;
-            answer_number(answer)
-        }
-        Written::Refused(refusal) => {
-            *written = 0;
-            refusal_number(refusal)
-        }
+        Ok(count) => Reply {
+            number: listing::answer_number(answer) as u32,
+            written: count as u64,
+        },
+        Err(refusal) => refused(refusal),
     }
 }
 
-// Writes figures on the page, eight bytes each, and gives the number that goes with them. A page too short for them is
-// answered by 11, and nothing is written.
-pub fn put_figures(number: u32, figures: &[u64], page: &mut [u8], written: &mut u64) -> u32
-    ensures { outcome result page.new written.new
-        ≡ put_on number (number_bytes figures.now) page.old }
+// Writes figures on the page, eight bytes each. The number is that of the answer that they are of.
+#[tactic(auto, using(crate::proofs::Outcomes::short_page, crate::proofs::Outcomes::long_page, words::proofs::Stores::sets_start, words::proofs::Stores::length_numbers))]
+pub fn put_figures<T: Copy>(answer: Result<T, Refusal>, figures: &[u64], page: &mut [u8]) -> Reply
+    ensures { replied (Ok result) page.new ≡ put_on (answer_number answer) (number_bytes figures.now) page.old }
 {
     if page.len() / 8 < figures.len() {
-        *written = 0;
-        return refusal_number(Refusal::ShortPage);
+        return refused(Refusal::ShortPage);
     }
     words::put_numbers(page, figures);
-    *written = 8 * figures.len() as u64;
-    number
+    Reply {
+        number: listing::answer_number(answer) as u32,
+        written: 8 * figures.len() as u64,
+    }
+}
+
+// Writes the number that an answer gives on the page, or 0 where it gives none.
+#[tactic(auto, unfolding(rules::specs::Answers::value_or_zero))]
+pub fn put_value(answer: Result<Option<u32>, Refusal>, page: &mut [u8]) -> Reply
+    ensures { replied (Ok result) page.new ≡ value_put answer page.old }
+{
+    let value = answer.unwrap_or(None).unwrap_or(0);
+    put_figures(answer, &[u64::from(value)], page)
+}
+
+// Gives a reply's number, and the number of its bytes in `written`. A malformed request has a number of its own, and no bytes.
+pub fn finish(reply: Result<Reply, Fault>, written: &mut u64) -> u32
+    ensures { (page : List ℕ) → outcome result page written.new ≡ replied reply page }
+{
+    match reply {
+        Ok(reply) => {
+            *written = reply.written;
+            reply.number
+        }
+        Err(fault) => {
+            *written = 0;
+            request::fault_number(fault)
+        }
+    }
 }

@@ -1,17 +1,19 @@
 -- The two calls for a price: what their requests hold after the data, and what they give back, whole, for every byte string and every
 -- page. Assumes nothing.
-use Rattle.std.specs.Prelude.{ℕ, ◌+◌, ◌*◌, List}
-use Rattle.words.specs.Bytes.{word, words_from, number_bytes}
+use Rattle.std.specs.Prelude.{ℕ, ◌+◌, ◌*◌, List, Result}
+use Rattle.words.specs.Bytes.{word, number_bytes}
 use Rattle.rules.specs.Limits.{most_bands}
-use Rattle.rules.specs.Answers.{price_number, price_figures}
+use Rattle.rules.specs.Answers.{answer_number, price_figures}
 use Rattle.rules.specs.Price.{examine_priced, ChosenPriced}
 use Rattle.rules.specs.declared.Candidate.{Candidate}
 use Rattle.rules.specs.declared.Tariff.{Tariff}
-use Rattle.rules.specs.declared.PriceAnswer.{PriceAnswer}
 use Rattle.request.specs.Frames.{data_words, candidate_words}
 use Rattle.request.specs.Layout.{decode, asked_candidate}
 use Rattle.request.specs.declared.Data.{Data}
 use Rattle.putting.specs.Outcomes.{Outcome, put_on, on_data, Answering}
+use Rattle.rules.specs.declared.Refusal.{Refusal}
+use Rattle.rules.specs.declared.PricedSheet.{PricedSheet}
+use Rattle.rules.specs.Sums.{values_from}
 
 -- the words of a tariff: the number of bands, six limits, six prices and the surcharge
 abbrev pub tariff_words : ℕ
@@ -22,17 +24,16 @@ abbrev pub asked_tariff : List ℕ → ℕ → Tariff
 asked_tariff bytes at =
     record {
       count = word bytes at;
-      limits = words_from bytes (at + 1) most_bands;
-      prices = words_from bytes (at + 7) most_bands;
+      bands = values_from 0 most_bands (λ k. record { limit = word bytes (at + 1 + k); price = word bytes (at + 7 + k) });
       surcharge = word bytes (at + 13);
     }
 
 -- a priced answer's figures on a page: the sheet's in the listing's order, then the price; zeros with a refusal
-abbrev pub price_put : PriceAnswer → List ℕ → Outcome
-price_put a page = put_on (price_number a) (number_bytes (price_figures a)) page
+abbrev pub price_put : Result PricedSheet Refusal → List ℕ → Outcome
+price_put a page = put_on (answer_number a) (number_bytes (price_figures a)) page
 
 -- the price of the design chosen: the tariff stands after the data; the answer is one (`priced_once`)
-abbrev pub PricedFor : Tariff → Data → PriceAnswer → Type 0
+abbrev pub PricedFor : Tariff → Data → Result PricedSheet Refusal → Type 0
 PricedFor t x a = ChosenPriced x.plant x.readings t a
 
 abbrev pub ChosenAndPriced : List ℕ → List ℕ → Outcome → Type 0

@@ -1,14 +1,18 @@
 // The calls for a price: a request's bytes in; out the answer's number, and on the page the figures of the sheet and its price.
 #![tactic(auto)]
 
-ghost use Rattle.std.specs.Prelude.{◌≡◌, ◌+◌, ◌*◌, ◌≤◌, length};
-ghost use Rattle.rules.specs.Answers.{price_number, price_figures};
+ghost use Rattle.std.specs.Prelude.{◌≡◌, ◌+◌, ◌*◌, ◌≤◌, ◌<◌, length, Ok};
+ghost use Rattle.words.specs.Bytes.{word};
+ghost use Rattle.rules.specs.Answers.{price_figures};
+ghost use Rattle.rules.specs.Limits.{most_bands};
 ghost use Rattle.request.specs.Frames.{data_words, candidate_words};
-ghost use Rattle.putting.specs.Outcomes.{outcome};
+ghost use Rattle.putting.specs.Replies.{replied};
 ghost use Rattle.quoting.specs.Quotes.{tariff_words, asked_tariff, price_put, ChosenAndPriced, examined_and_priced};
 
-use request::Decoded;
-use rules::{PriceAnswer, Tariff};
+use putting::Reply;
+use request::Fault;
+use rules::{Band, PricedSheet, Refusal, Tariff};
+use std::array;
 
 // Own words of a tariff: the number of bands, six limits, six prices and the surcharge.
 const TARIFF_WORDS: usize = 14;
@@ -16,122 +20,66 @@ const TARIFF_WORDS: usize = 14;
 // How many figures a priced answer has: the sheet's and the price.
 const PRICE_FIGURES: usize = 16;
 
+// A band of the tariff that stands in a request from a word on: the limits of all bands come first, then their prices.
+fn band(bytes: &[u8], at: usize, k: usize) -> Band
+    requires { (at ≤ data_words + candidate_words) × (4 * (at + tariff_words) ≤ length bytes.now) × (k < most_bands) }
+    ensures { result ≡ record { limit = word bytes.now (at + 1 + k); price = word bytes.now (at + 7 + k) } }
+{
+    Band {
+        limit: words::word(bytes, at + 1 + k),
+        price: words::word(bytes, at + 7 + k),
+    }
+}
+
 // The tariff that stands in a request from a word on.
 fn tariff_of(bytes: &[u8], at: usize) -> Tariff
     requires { (at ≤ data_words + candidate_words) × (4 * (at + tariff_words) ≤ length bytes.now) }
     ensures { result ≡ asked_tariff bytes.now at }
 {
-    let count = words::word(bytes, at);
-    let limits = [
-        words::word(bytes, at + 1),
-        words::word(bytes, at + 2),
-        words::word(bytes, at + 3),
-        words::word(bytes, at + 4),
-        words::word(bytes, at + 5),
-        words::word(bytes, at + 6),
-    ];
-    let prices = [
-        words::word(bytes, at + 7),
-        words::word(bytes, at + 8),
-        words::word(bytes, at + 9),
-        words::word(bytes, at + 10),
-        words::word(bytes, at + 11),
-        words::word(bytes, at + 12),
-    ];
     Tariff {
-        count,
-        limits,
-        prices,
+        count: words::word(bytes, at),
+        bands: array::from_fn(|k| band(bytes, at, k)),
         surcharge: words::word(bytes, at + 13),
     }
 }
 
-// The paper's number of a priced answer: 0 where it has a sheet.
-fn price_number(answer: PriceAnswer) -> u32
-    ensures { result ≡ price_number answer }
-{
-    match answer {
-        PriceAnswer::Priced(_) => 0,
-        PriceAnswer::Refused(refusal) => putting::refusal_number(refusal),
-    }
-}
-
 // The figures of a priced answer: the sheet's, then the price; zeros where it is refused.
-fn price_figures(answer: PriceAnswer) -> [u64; PRICE_FIGURES]
+fn price_figures(answer: Result<PricedSheet, Refusal>) -> [u64; PRICE_FIGURES]
     ensures { result ≡ price_figures answer }
 {
-    match answer {
-        PriceAnswer::Refused(_) => [0; PRICE_FIGURES],
-        PriceAnswer::Priced(priced) => {
-            let sheet = priced.sheet;
-            [
-                sheet.fraction,
-                sheet.return_ratio,
-                sheet.thickening,
-                sheet.age,
-                sheet.sludge,
-                sheet.mass,
-                sheet.solids,
-                sheet.reactor,
-                sheet.surface,
-                sheet.depth,
-                sheet.settling,
-                sheet.total,
-                sheet.recirculation,
-                sheet.oxygen,
-                sheet.transfer,
-                priced.price,
-            ]
-        }
+    let mut figures = [0; PRICE_FIGURES];
+    if let Ok(priced) = answer {
+        words::store(&mut figures, 0, &listing::figures(priced.sheet));
+        figures[15] = priced.price;
     }
+    figures
 }
 
-// Writes the figures of a priced answer on the page, and gives its number.
-fn put_price(answer: PriceAnswer, page: &mut [u8], written: &mut u64) -> u32
-    ensures { outcome result page.new written.new ≡ price_put answer page.old }
+// Writes the figures of a priced answer on the page.
+fn put_price(answer: Result<PricedSheet, Refusal>, page: &mut [u8]) -> Reply
+    ensures { replied (Ok result) page.new ≡ price_put answer page.old }
 {
-    let number = price_number(answer);
-    let figures = price_figures(answer);
-    putting::put_figures(number, &figures, page, written)
+    putting::put_figures(answer, &price_figures(answer), page)
 }
 
-// The price of the design chosen. A malformed request is answered by 101 to 103, and nothing is written.
-pub fn choose(request: &[u8], page: &mut [u8], written: &mut u64) -> u32
-    ensures { ChosenAndPriced request.now page.old (outcome result page.new written.new) }
+// The price of the design chosen, or what is wrong with a malformed request.
+pub fn choose(request: &[u8], page: &mut [u8]) -> Result<Reply, Fault>
+    ensures { ChosenAndPriced request.now page.old (replied result page.new) }
 {
-    match request::decode(request, TARIFF_WORDS) {
-        Decoded::Malformed(fault) => {
-            *written = 0;
-            request::fault_number(fault)
-        }
-        Decoded::Data(data) => {
-            let plant = data.plant;
-            let readings = data.readings;
-            let tariff = tariff_of(request, request::DATA_WORDS);
-            put_price(pricing::choose(plant, readings, tariff), page, written)
-        }
-    }
+    let data = request::decode(request, TARIFF_WORDS)?;
+    let tariff = tariff_of(request, request::DATA_WORDS);
+    let answer = pricing::choose(data.plant, data.readings, tariff);
+    Ok(put_price(answer, page))
 }
 
-// The price of a candidate examined. A malformed request is answered by 101 to 103, and nothing is written.
-pub fn examine(request: &[u8], page: &mut [u8], written: &mut u64) -> u32
-    ensures { outcome result page.new written.new ≡ examined_and_priced request.now page.old }
+// The price of a candidate examined, or what is wrong with a malformed request.
+#[tactic(auto, unfolding(crate::specs::Quotes::examined_and_priced, putting::specs::Outcomes::on_data))]
+pub fn examine(request: &[u8], page: &mut [u8]) -> Result<Reply, Fault>
+    ensures { replied result page.new ≡ examined_and_priced request.now page.old }
 {
-    match request::decode(request, request::CANDIDATE_WORDS + TARIFF_WORDS) {
-        Decoded::Malformed(fault) => {
-            *written = 0;
-            request::fault_number(fault)
-        }
-        Decoded::Data(data) => {
-            let plant = data.plant;
-            let readings = data.readings;
-            let candidate = request::candidate(request);
-            let tariff = tariff_of(request, request::DATA_WORDS + request::CANDIDATE_WORDS);
-            put_price(
-                pricing::examine(plant, readings, candidate, tariff),
-                page,
-                written,
-            )
-        }
-    }
+    let data = request::decode(request, request::CANDIDATE_WORDS + TARIFF_WORDS)?;
+    let candidate = request::candidate(request);
+    let tariff = tariff_of(request, request::DATA_WORDS + request::CANDIDATE_WORDS);
+    let answer = pricing::examine(data.plant, data.readings, candidate, tariff);
+    Ok(put_price(answer, page))
 }

@@ -1,64 +1,196 @@
--- A test of a plant's seasons is the definition's test of the terms. Assumes nothing.
-use mathlib.Core.Path.{◌≡◌, refl, sym}
-use mathlib.Core.Bool.{Bool, true, false, cond, ◌||◌}
-use Prim.Native.Nat.{ℕ}
-use lib.Dec.{leb}
-use Rattle.rules.specs.AgeNitrate.{safety_factor, corrected_age}
-use Rattle.rules.specs.Consent.{terms_of, every}
+-- The seasons of accepted data: the inflow and the design in their limits, each entry its term's, and what is asked of an entry asked of
+-- the term. Assumes nothing.
+use mathlib.Core.Path.{◌≡◌, refl, sym, ap, subst, ◌∙◌}
+use mathlib.Core.Bool.{Bool, true, false}
+use mathlib.Core.List.{List, [], ◌∷◌}
+use Prim.Native.Nat.{ℕ, zero, suc, ◌+◌, ◌≤◌, ◌<◌}
+use borrow.Author.Tests.{lt-leb, le-leb}
+use lib.Dec.{T}
+use lib.ListN.{length, get_or, take}
+use native.Mathlib.Omega.{arith}
+use Rattle.rules.specs.Limits.{most_temperature, most_terms}
+use Rattle.rules.specs.AgeNitrate.{safety_factor, decay, aerobic_age, corrected_age, nitrified}
+use Rattle.rules.specs.ReactorSteps.{sludge_per_phosphorus}
+use Rattle.rules.specs.Consent.{no_term, term_valid, terms_of, every}
 use Rattle.rules.specs.TermSteps.{term_share, nitrifies, term_fraction, term_removes, term_denitrified, term_covered}
 use Rattle.rules.specs.Explanations.{no_term_explained}
 use Rattle.rules.specs.Explaining.{term_explained, term_at}
+use Rattle.rules.specs.Sums.{values_from}
+use Rattle.rules.specs.Ranges.{Between, TermTemperature, PlantRanges, ConcentrationRanges}
 use Rattle.rules.specs.declared.Plant.{Plant}
 use Rattle.rules.specs.declared.Concentrations.{Concentrations}
 use Rattle.rules.specs.declared.Term.{Term}
 use Rattle.rules.specs.declared.Reactor.{Reactor}
-use Rattle.rules.proofs.EveryTerm.{every_entry}
-use Rattle.reactor.specs.Seasons.{season_with, season_of, season_at, seasons_of, season_nitrifies, season_fraction, season_removes, season_covered, season_explained, entry_explained, every_season}
+use Rattle.std.proofs.lemmas.List.{get_or-take, length-take-le}
+use Rattle.rules.proofs.SumLaws.{values_length, values_at, list_of_values}
+use Rattle.rules.proofs.EveryTerm.{every_at, term_ranges, ValidTerms, valid_terms}
+use Rattle.reactor.specs.Seasons.{season_with, season_of, no_season, season_at, inflow_of, seasons_of, InflowBounds, SeasonBounds, TermSeasons, season_nitrifies, season_fraction, season_removes, season_covered, season_explained}
 use Rattle.reactor.specs.declared.Season.{Season}
+use Rattle.reactor.specs.declared.Seasons.{Seasons}
+use Rattle.reactor.proofs.AgeLimits.{safety_factor_between, aerobic_age_between, aerobic_age_most, decay_most}
+use Rattle.reactor.proofs.NitrateLimits.{nitrified_most, denitrified_most, removed_by_dose_most}
+use Rattle.reactor.proofs.SludgeLimits.{sludge_per_phosphorus_most, phosphorus_sludge_most}
 
--- past the count nothing is looked at, before it the season is the term's
-entry : (test : Season → Bool) (count i factor : ℕ) (term : Term) → (leb count i || test (season_at count i factor term)) ≡ (leb count i || test (season_of factor term))
-unfolding season_at
-entry test count i factor term = go (leb count i)
+season_bounds : (factor n target : ℕ) → Between 145 180 factor → TermTemperature n → SeasonBounds (season_with factor n target)
+unfolding season_with
+season_bounds factor n target h b =
+    record { temperature = b.most; age = (aerobic_age_between factor n h b).most; decay = decay_most n b.least b.most }
+
+inflow_bounds : (p : Plant) (x : Concentrations) → PlantRanges p → ConcentrationRanges x → InflowBounds (inflow_of p x)
+unfolding inflow_of
+inflow_bounds p x hp hx =
+    let w = nitrified_most x.nitrogen x.bod hx.nitrogen.most in
+    record {
+      nitrified = w;
+      denitrified = denitrified_most (nitrified x.nitrogen x.bod) p.nitrate_target w;
+      by_dose = removed_by_dose_most p.dose hp.dose.most;
+      phosphorus = phosphorus_sludge_most p.flow (sludge_per_phosphorus p.precipitant) x.phosphorus p.phosphorus_target x.bod hp.flow.most (sludge_per_phosphorus_most p.precipitant) hx.phosphorus.most;
+    }
+
+-- the inflow and the design are the plant's, in their limits
+pub record DesignIn (p : Plant) (x : Concentrations) (s : Seasons) : Type 0 where
+  pub inflow : s.inflow ≡ inflow_of p x
+  pub inflow_bounds : InflowBounds s.inflow
+  pub temperature : s.design.temperature ≡ p.design_temperature
+  pub age : s.design.aerobic_age ≡ aerobic_age (safety_factor p.load) p.design_temperature
+  pub decay : s.design.decay ≡ decay p.design_temperature
+  pub warm : s.design.temperature ≤ most_temperature
+  pub age_between : Between 1 10_000 s.design.aerobic_age
+  pub decay_most : s.design.decay ≤ 1_420_000
+
+module _ (p : Plant) (x : Concentrations) (hp : PlantRanges p) where
+  pub design_in : (s : Seasons) → ConcentrationRanges x → s ≡ seasons_of p x → DesignIn p x s
+  unfolding seasons_of season_with
+  design_in s hx e =
+      subst (DesignIn p x) (sym e)
+      (let between = safety_factor_between p.load in
+      let term : TermTemperature p.design_temperature = record { least = omega (arith, hp.design); most = hp.design.most } in
+      record {
+        inflow = refl;
+        inflow_bounds = inflow_bounds p x hp hx;
+        temperature = refl;
+        age = refl;
+        decay = refl;
+        warm = hp.design.most;
+        age_between =
+            record {
+              least = (aerobic_age_between (safety_factor p.load) p.design_temperature between term).least;
+              most = aerobic_age_most (safety_factor p.load) p.design_temperature between.most hp.design;
+            };
+        decay_most = decay_most p.design_temperature term.least hp.design.most;
+      })
+
+  pub count_most : (s : Seasons) → s ≡ seasons_of p x → s.count ≤ most_terms
+  unfolding seasons_of
+  count_most s e = omega (arith, ap (λ (t : Seasons). t.count) e, (valid_terms p.consent hp.consent).most)
+
+  own : (i : ℕ) → i < p.consent.count → season_at p i ≡ season_of (safety_factor p.load) (get_or p.consent.terms i no_term)
+  unfolding season_at
+  own i below = rw (lt-leb p.consent.count i below)
+
+  bounded : (term : Term) → T (term_valid term) → SeasonBounds (season_of (safety_factor p.load) term)
+  unfolding season_of
+  bounded term valid =
+      season_bounds (safety_factor p.load) term.temperature term.nitrate_target (safety_factor_between p.load) (term_ranges term valid).temperature
+
+  pub term_seasons :
+      (s : Seasons)
+      → s ≡ seasons_of p x
+      → p.consent.count ≤ length p.consent.terms
+      → TermSeasons p (take s.count s.terms)
+  unfolding seasons_of
+  term_seasons s e listed =
+      subst (λ (t : Seasons). TermSeasons p (take t.count t.terms)) (sym e)
+      (record { long = long; listed = listed; each = each; bounds = bounds })
+    where
+      valid : ValidTerms p.consent
+      valid = valid_terms p.consent hp.consent
+
+      all : List Season
+      all = values_from 0 most_terms (season_at p)
+
+      long : length (take p.consent.count all) ≡ p.consent.count
+      long = length-take-le p.consent.count all (omega (arith, valid.most, values_length 0 most_terms (season_at p)))
+
+      each :
+          (i : ℕ)
+          → i < length (take p.consent.count all)
+          → get_or (take p.consent.count all) i no_season ≡ season_of (safety_factor p.load) (get_or p.consent.terms i no_term)
+      each i b =
+          let below : i < p.consent.count = omega (arith, long) in
+          let few : i < most_terms = omega (arith, valid.most) in
+          let same : 0 + i ≡ i = omega arith in
+          get_or-take p.consent.count all i no_season below
+          ∙ (values_at no_season 0 most_terms (season_at p) i few ∙ (ap (season_at p) same ∙ own i below))
+
+      bounds : (i : ℕ) → i < length (take p.consent.count all) → SeasonBounds (get_or (take p.consent.count all) i no_season)
+      bounds i b =
+          let below : i < p.consent.count = omega (arith, long) in
+          rw (each i b) (bounded (get_or p.consent.terms i no_term) (valid.each i below (omega (arith, listed))))
+
+-- a test that each of the first n terms passes, and one that entry i fails
+pub every_of : (test : Term → Bool) (l : List Term) (n : ℕ) → n ≤ length l → ((k : ℕ) → k < n → test (get_or l k no_term) ≡ true) → every test (take n l) ≡ true
+every_of test l zero most h = refl
+every_of test [] (suc n) most h = absurd (omega (arith, most))
+every_of test (term ∷ later) (suc n) most h =
+    rw (h 0 (omega arith)) (every_of test later n (omega (arith, most)) (λ k b. h (suc k) (omega (arith, b))))
+
+pub every_fails : (test : Term → Bool) (l : List Term) (n i : ℕ) → i < n → i < length l → test (get_or l i no_term) ≡ false → every test (take n l) ≡ false
+every_fails test l n i below within fails = go (every test (take n l)) refl
   where
-    go : (b : Bool) → (b || test (cond b (record { temperature = 0; target = 0; aerobic_age = 0; decay = 0 }) (season_of factor term))) ≡ (b || test (season_of factor term))
-    go true = refl
-    go false = refl
+    go : (b : Bool) → every test (take n l) ≡ b → every test (take n l) ≡ false
+    go false e = e
+    go true e = absurd (subst T fails (every_at test l n i (subst T (sym e) tt) below within))
 
-every_season_lem : (p : Plant) (x : Concentrations) (test : Season → Bool) → every_season test (seasons_of p x) ≡ every (λ term. test (season_of (safety_factor p.load) term)) (terms_of p.consent)
-unfolding seasons_of
-every_season_lem p x test =
-    let c = p.consent in
-    let factor = safety_factor p.load in
-    rw (entry test c.count 0 factor c.first, entry test c.count 1 factor c.second, entry test c.count 2 factor c.third, entry test c.count 3 factor c.fourth)
-    (sym (every_entry (λ term. test (season_of factor term)) c.count c.first c.second c.third c.fourth))
-
--- 15
-pub every_nitrified : (p : Plant) (x : Concentrations) (reactor : Reactor) → every_season (season_nitrifies reactor.age) (seasons_of p x) ≡ every (nitrifies p reactor) (terms_of p.consent)
-unfolding season_with season_of season_nitrifies nitrifies term_share
-every_nitrified p x reactor = every_season_lem p x (season_nitrifies reactor.age)
-
--- 16
-pub every_covered :
-    (p : Plant) (x : Concentrations) (reactor : Reactor)
-    → every_season (season_covered p.way p.process x reactor) (seasons_of p x) ≡ every (term_covered p x reactor) (terms_of p.consent)
-unfolding season_with season_of season_fraction season_removes season_covered term_share term_fraction term_removes term_denitrified term_covered corrected_age
-every_covered p x reactor = every_season_lem p x (season_covered p.way p.process x reactor)
-
--- what explains a term
-pub explained_at_lem :
-    (p : Plant) (x : Concentrations) (reactor : Reactor) (i : ℕ) (term : Term)
-    → entry_explained p.consent.count i p.way p.process x reactor (season_at p.consent.count i (safety_factor p.load) term)
-    ≡ term_at p x reactor i term
-unfolding entry_explained term_at season_at season_with season_of season_fraction season_removes season_explained term_share term_fraction term_removes term_denitrified term_explained corrected_age
-explained_at_lem p x reactor i term = go (leb p.consent.count i)
+-- a test of the seasons that is a test of the terms
+module _
+    (p : Plant) (l : List Season) (known : TermSeasons p l) (own : Season → Bool) (test : Term → Bool)
+    (same : (s : Season) (term : Term) → s ≡ season_of (safety_factor p.load) term → own s ≡ test term)
   where
-    none : Season
-    none = record { temperature = 0; target = 0; aerobic_age = 0; decay = 0 }
+    pub all_pass : (n : ℕ) → length l ≤ n → ((k : ℕ) → k < n → own (get_or l k no_season) ≡ true) → true ≡ every test (terms_of p.consent)
+    all_pass n most h =
+        sym (every_of test p.consent.terms p.consent.count known.listed
+        (λ k b.
+        let below : k < length l = omega (arith, known.long) in
+        sym (same (get_or l k no_season) (get_or p.consent.terms k no_term) (known.each k below)) ∙ h k (omega arith)))
 
-    go :
-        (b : Bool)
-        → cond b no_term_explained (season_explained p.way p.process x reactor (cond b none (season_of (safety_factor p.load) term)))
-        ≡ cond b no_term_explained (term_explained p x reactor term)
-    go true = refl
-    go false = refl
+    pub one_fails : (i : ℕ) → i < length l → own (get_or l i no_season) ≡ false → false ≡ every test (terms_of p.consent)
+    one_fails i below fails =
+        sym (every_fails test p.consent.terms p.consent.count i (omega (arith, known.long)) (omega (arith, known.long, known.listed))
+        (sym (same (get_or l i no_season) (get_or p.consent.terms i no_term) (known.each i below)) ∙ fails))
+
+module _ (p : Plant) (x : Concentrations) (reactor : Reactor) (s : Season) (term : Term) (e : s ≡ season_of (safety_factor p.load) term) where
+  -- 15
+  pub term_nitrifies : season_nitrifies reactor.age s ≡ nitrifies p reactor term
+  unfolding season_with season_of season_nitrifies nitrifies term_share
+  term_nitrifies = rw e
+
+  -- 16
+  pub term_covered_lem : season_covered p x reactor s ≡ term_covered p x reactor term
+  unfolding season_with season_of season_fraction season_removes season_covered term_share term_fraction term_removes term_denitrified term_covered corrected_age
+  term_covered_lem = rw e
+
+  -- what explains a term
+  pub term_explained_lem : season_explained p x reactor s ≡ term_explained p x reactor term
+  unfolding season_with season_of season_fraction season_removes season_explained term_share term_fraction term_removes term_denitrified term_explained corrected_age
+  term_explained_lem = rw e
+
+-- what explains entry i, past the count and before it
+pub term_past : (p : Plant) (x : Concentrations) (reactor : Reactor) (i : ℕ) → p.consent.count ≤ i → term_at p x reactor i ≡ no_term_explained
+unfolding term_at
+term_past p x reactor i past = rw (le-leb p.consent.count i past)
+
+pub term_before : (p : Plant) (x : Concentrations) (reactor : Reactor) (i : ℕ) → i < p.consent.count → term_at p x reactor i ≡ term_explained p x reactor (get_or p.consent.terms i no_term)
+unfolding term_at
+term_before p x reactor i before = rw (lt-leb p.consent.count i before)
+
+-- a list of four entries
+pub list_of_four : {A : Type 0} (d : A) (g : ℕ → A) (l : List A) → length l ≡ 4 → get_or l 0 d ≡ g 0 → get_or l 1 d ≡ g 1 → get_or l 2 d ≡ g 2 → get_or l 3 d ≡ g 3 → l ≡ values_from 0 4 g
+list_of_four d g l long e0 e1 e2 e3 = list_of_values d 4 g l long each
+  where
+    each : (i : ℕ) → i < 4 → get_or l i d ≡ g i
+    each zero b = e0
+    each (suc zero) b = e1
+    each (suc (suc zero)) b = e2
+    each (suc (suc (suc zero))) b = e3
+    each (suc (suc (suc (suc i)))) b = absurd (omega (arith, b))

@@ -5,7 +5,10 @@ ghost use Rattle.rules.specs.AgeNitrate.{safety_factor, per_degree, growth, deca
 ghost use Rattle.rules.specs.Ranges.{Between, Temperature, TermTemperature};
 ghost use Rattle.rules.specs.Limits.{least_temperature, most_term_age, most_fraction, most_age};
 
+use rounding::round_up;
+
 // 1,000,000 multiplied by multiplier / divisor once for each degree, down at each.
+#[tactic(auto, using(crate::proofs::AgeLimits::per_degree_none, crate::proofs::AgeLimits::per_degree_more, crate::proofs::AgeLimits::per_degree_fits))]
 fn per_degree(multiplier: u64, divisor: u64, degrees: u64) -> u64
     requires { (multiplier ≤ 2_000) × (1_000 ≤ divisor) × (degrees ≤ 15) }
     ensures { result ≡ per_degree multiplier divisor degrees }
@@ -17,7 +20,7 @@ fn per_degree(multiplier: u64, divisor: u64, degrees: u64) -> u64
 }
 
 // G, growth: 1103 / 1000 for each degree below 15, the reverse for each above.
-pub(crate) fn growth(temperature: u64) -> u64
+fn growth(temperature: u64) -> u64
     requires { TermTemperature temperature }
     ensures { (result ≡ growth temperature) × Between 1 2_942_000 result × (least_temperature ≤ temperature → result ≤ 1_633_000) }
 {
@@ -28,7 +31,8 @@ pub(crate) fn growth(temperature: u64) -> u64
     }
 }
 
-// F, decay: 1072 / 1000 for each degree above 15, the reverse for each below.
+// F, decay: 1072 / 1000 for each degree above 15, the reverse for each below. Growth and decay are two steps of document 01 over
+// one recursion, the form that it names; a function of both would take the figures and the direction, and be no plainer.
 pub fn decay(temperature: u64) -> u64
     requires { TermTemperature temperature }
     ensures { (result ≡ decay temperature) × (result ≤ 1_420_000) }
@@ -41,6 +45,7 @@ pub fn decay(temperature: u64) -> u64
 }
 
 // SF, safety factor, hundredths.
+#[tactic(auto, unfolding(rules::specs::AgeNitrate::safety_factor))]
 pub fn safety_factor(load: u64) -> u64
     requires { load ≤ 100_000 }
     ensures { (result ≡ safety_factor load) × Between 145 180 result }
@@ -53,19 +58,21 @@ pub fn safety_factor(load: u64) -> u64
 }
 
 // a, aerobic sludge age, thousandths of a day: at most 10,000 at a plant's temperatures.
+#[tactic(auto, unfolding(rules::specs::AgeNitrate::aerobic_age))]
 pub fn aerobic_age(factor: u64, temperature: u64) -> u64
     requires { Between 145 180 factor × TermTemperature temperature }
     ensures { (result ≡ aerobic_age factor temperature) × Between 1 most_term_age result × (least_temperature ≤ temperature → result ≤ 10_000) }
 {
-    rounding::round_up(factor * 34 * growth(temperature), 1_000_000)
+    round_up(factor * 34 * growth(temperature), 1_000_000)
 }
 
 // t, sludge age, thousandths of a day.
+#[tactic(auto, unfolding(rules::specs::AgeNitrate::sludge_age))]
 pub fn sludge_age(aerobic: u64, fraction: u64) -> u64
     requires { Between 1 10_000 aerobic × (fraction ≤ most_fraction) }
     ensures { (result ≡ sludge_age aerobic fraction) × Between 1 most_age result }
 {
-    rounding::round_up(1000 * aerobic, 1000 - fraction)
+    round_up(1000 * aerobic, 1000 - fraction)
 }
 
 // U, sludge age corrected by the decay at a temperature, thousandths of a day: at most 1.42 times the age.
@@ -77,6 +84,7 @@ pub(crate) fn corrected_by(age: u64, decay: u64) -> u64
 }
 
 // U at a temperature.
+#[tactic(auto, unfolding(rules::specs::AgeNitrate::corrected_age))]
 pub fn corrected_age(age: u64, temperature: u64) -> u64
     requires { (age ≤ 30_000) × Temperature temperature }
     ensures { (result ≡ corrected_age age temperature) × (100 * result ≤ 142 * age) }

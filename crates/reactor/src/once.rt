@@ -1,38 +1,35 @@
 // What the inflow asks of a reactor whatever its fraction, reckoned once for a plant.
 ghost use Rattle.std.specs.Prelude.{◌≡◌};
-ghost use Rattle.rules.specs.Ranges.{PlantRanges, ConcentrationRanges};
 ghost use Rattle.reactor.specs.Seasons.{inflow_of, InflowBounds};
 
 use crate::Inflow;
-use rules::{Concentrations, Plant};
+use crate::nitrate::{denitrified, nitrified, removed_by_dose};
+use crate::sludge::{phosphorus_sludge, sludge_per_phosphorus};
+use rules::Accepted;
 
-// W, D, what the dose removes, and the phosphorus sludge.
-pub(crate) fn inflow_of(plant: Plant, concentrations: Concentrations) -> Inflow
-    requires { PlantRanges plant × ConcentrationRanges concentrations }
-    ensures { (result ≡ inflow_of plant concentrations) × InflowBounds result }
-{
-    let flow = plant.flow as u64;
-    let nitrate_target = plant.nitrate_target as u64;
-    let phosphorus_target = plant.phosphorus_target as u64;
-    let dose = plant.dose as u64;
-    let precipitant = plant.precipitant;
-    let bod = concentrations.bod;
-    let phosphorus = concentrations.phosphorus;
-    let nitrified = crate::nitrate::nitrified(concentrations.nitrogen, bod);
-    let denitrified = crate::nitrate::denitrified(nitrified, nitrate_target);
-    let removed_by_dose = crate::nitrate::removed_by_dose(dose);
-    let k = crate::sludge::sludge_per_phosphorus(precipitant);
-    let phosphorus_sludge = crate::sludge::phosphorus_sludge(
-        flow,
-        k,
-        phosphorus,
-        phosphorus_target,
-        bod,
-    );
-    Inflow {
-        nitrified,
-        denitrified,
-        removed_by_dose,
-        phosphorus_sludge,
+impl Inflow {
+    // W, D, what the dose removes, and the phosphorus sludge.
+    #[tactic(auto, unfolding(crate::specs::Seasons::inflow_of))]
+    pub(crate) fn new(accepted: &Accepted) -> Inflow
+        ensures { (result ≡ inflow_of accepted.now.plant accepted.now.concentrations) × InflowBounds result }
+    {
+        let plant = &accepted.plant;
+        let concentrations = &accepted.concentrations;
+        let nitrate_target = u64::from(plant.nitrate_target);
+        let phosphorus_target = u64::from(plant.phosphorus_target);
+        let nitrified = nitrified(concentrations.nitrogen, concentrations.bod);
+        let phosphorus_sludge = phosphorus_sludge(
+            u64::from(plant.flow),
+            sludge_per_phosphorus(plant.precipitant),
+            concentrations.phosphorus,
+            phosphorus_target,
+            concentrations.bod,
+        );
+        Inflow {
+            nitrified,
+            denitrified: denitrified(nitrified, nitrate_target),
+            removed_by_dose: removed_by_dose(u64::from(plant.dose)),
+            phosphorus_sludge,
+        }
     }
 }

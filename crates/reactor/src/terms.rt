@@ -1,244 +1,168 @@
 // The design and the terms of the consent. What does not depend on the fraction is reckoned once for a plant.
-ghost use Rattle.std.specs.Prelude.{◌≡◌, ◌||◌, ◌*◌, ◌≤◌, ◌<◌, T, leb};
-ghost use Rattle.rules.specs.Rounding.{down};
-ghost use Rattle.rules.specs.Limits.{least_temperature, most_term_age, most_age, most_fraction, most_temperature, most_removes, most_nitrogen};
-ghost use Rattle.rules.specs.Ranges.{Between, TermTemperature, PlantRanges, ConcentrationRanges, ReactorBounds};
-ghost use Rattle.rules.specs.Consent.{term_valid};
+ghost use Rattle.std.specs.Prelude.{◌≡◌, ◌*◌, ◌≤◌, ◌<◌, length};
+ghost use Rattle.rules.specs.Limits.{most_term_age, most_age, most_fraction, most_temperature, most_removes, most_terms};
+ghost use Rattle.rules.specs.Ranges.{Between, TermTemperature, ReactorBounds};
+ghost use Rattle.rules.specs.AgeNitrate.{safety_factor};
 ghost use Rattle.rules.specs.TermSteps.{aerobic_share, removes_from200};
-ghost use Rattle.reactor.specs.Seasons.{season_with, season_at, SeasonBounds, SeasonsBounds, SeasonsAt, season_nitrifies, season_fraction, season_removes, season_covered, season_explained, entry_explained, every_season};
+ghost use Rattle.reactor.specs.Seasons.{season_with, season_at, SeasonBounds, SeasonsAt, season_nitrifies, season_fraction, season_removes, season_covered, season_explained};
 
-use crate::{Season, Seasons};
-use rules::{Concentrations, Plant, Process, Reactor, Term, TermExplained, Way};
+use crate::age::{aerobic_age, corrected_by, decay, safety_factor};
+use crate::nitrate::{covered, denitrified, removes};
+use crate::{Inflow, Season, Seasons};
+use rounding::round_up;
+use rules::{Accepted, LEAST_FRACTION, Reactor, TermExplained};
+use std::array;
 
-// A temperature and a target with the plant's SF.
-fn season_with(factor: u64, temperature: u64, target: u64) -> Season
-    requires { Between 145 180 factor × TermTemperature temperature }
-    ensures { (result ≡ season_with factor temperature target) × SeasonBounds result × (least_temperature ≤ temperature → Between 1 10_000 result.aerobic_age) }
-{
-    let aerobic_age = crate::age::aerobic_age(factor, temperature);
-    let decay = crate::age::decay(temperature);
-    Season {
-        temperature,
-        target,
-        aerobic_age,
-        decay,
-    }
-}
-
-// Entry i of a consent with so many terms, with the plant's SF; zeros past the count.
-fn season_at(count: u32, i: u32, factor: u64, term: Term) -> Season
-    requires { Between 145 180 factor × (i < count → T (term_valid term)) }
-    ensures { (result ≡ season_at count i factor term) × SeasonBounds result }
-{
-    if count <= i {
-        return Season {
-            temperature: 0,
-            target: 0,
-            aerobic_age: 0,
-            decay: 0,
-        };
-    }
-    season_with(factor, term.temperature as u64, term.nitrate_target as u64)
-}
-
-// What does not depend on the fraction, for a plant and its inflow.
-pub fn seasons_of(plant: Plant, concentrations: Concentrations) -> Seasons
-    requires { PlantRanges plant × ConcentrationRanges concentrations }
-    ensures { SeasonsAt plant concentrations result }
-{
-    let temperature = plant.design_temperature as u64;
-    let target = plant.nitrate_target as u64;
-    let consent = plant.consent;
-    let factor = crate::age::safety_factor(plant.load as u64);
-    let design = season_with(factor, temperature, target);
-    let count = consent.count;
-    let first = consent.first;
-    let second = consent.second;
-    let third = consent.third;
-    let fourth = consent.fourth;
-    let first = season_at(count, 0, factor, first);
-    let second = season_at(count, 1, factor, second);
-    let third = season_at(count, 2, factor, third);
-    let fourth = season_at(count, 3, factor, fourth);
-    let inflow = crate::once::inflow_of(plant, concentrations);
-    Seasons {
-        inflow,
-        design,
-        count,
-        first,
-        second,
-        third,
-        fourth,
-    }
-}
+// Where no term stands.
+pub(crate) const NOT_EXPLAINED: TermExplained = TermExplained {
+    aerobic_share: 0,
+    fraction: 0,
+    denitrified: 0,
+    removed_by_bod: 0,
+    removable: 0,
+};
 
 // up(1000a / t): what nitrification needs of the sludge age, thousandths.
+#[tactic(auto, unfolding(rules::specs::TermSteps::aerobic_share))]
 fn aerobic_share(aerobic: u64, age: u64) -> u64
     requires { (aerobic ≤ most_term_age) × Between 1 most_age age }
     ensures { result ≡ aerobic_share aerobic age }
 {
-    rounding::round_up(1000 * aerobic, age)
-}
-
-// The fraction left for denitrification: the smaller of f and 1000 − up(1000a / t).
-fn season_fraction(fraction: u64, age: u64, season: Season) -> u64
-    requires { (fraction ≤ most_fraction) × Between 1 most_age age × SeasonBounds season }
-    ensures { (result ≡ season_fraction fraction age season) × (result ≤ most_fraction) }
-{
-    let left = rounding::less(1000, aerobic_share(season.aerobic_age, age));
-    if left < fraction { left } else { fraction }
+    round_up(1000 * aerobic, age)
 }
 
 // K × C or what stands for it at a fraction and a temperature: 0 at a fraction under 200.
-fn removes_from_200(
-    way: Way,
-    process: Process,
-    concentrations: Concentrations,
-    fraction: u64,
-    temperature: u64,
-    corrected: u64,
-) -> u64
-    requires { ConcentrationRanges concentrations × (fraction ≤ most_fraction) × (temperature ≤ most_temperature) × (corrected ≤ 28_400) }
-    ensures { (result ≡ removes_from200 way process concentrations fraction temperature corrected) × (result ≤ most_removes) }
+#[tactic(auto, unfolding(rules::specs::TermSteps::removes_from200))]
+fn removes_from_200(accepted: &Accepted, fraction: u64, temperature: u64, corrected: u64) -> u64
+    requires { (fraction ≤ most_fraction) × (temperature ≤ most_temperature) × (corrected ≤ 28_400) }
+    ensures { (result ≡ removes_from200 accepted.now.plant.way accepted.now.plant.process accepted.now.concentrations fraction temperature corrected) × (result ≤ most_removes) }
 {
-    if fraction < 200 {
+    if fraction < u64::from(LEAST_FRACTION) {
         return 0;
     }
-    crate::nitrate::removes(
-        way,
-        process,
-        concentrations,
-        fraction,
-        temperature,
-        corrected,
+    removes(accepted, fraction, temperature, corrected)
+}
+
+// What entry i of the consent asks, with the plant's SF; zeros past the count. Each term counted stands in the list.
+#[tactic(auto, unfolding(crate::specs::Seasons::season_at, crate::specs::Seasons::season_of))]
+fn term_season(accepted: &Accepted, factor: u64, i: usize) -> Season
+    requires { (factor ≡ safety_factor accepted.now.plant.load) × (i < most_terms) }
+    ensures { (result ≡ season_at accepted.now.plant i) × (i < accepted.now.plant.consent.count → i < length accepted.now.plant.consent.terms) }
+{
+    let consent = &accepted.plant.consent;
+    if consent.count as usize <= i {
+        return Season::NONE;
+    }
+    let term = consent.terms[i];
+    Season::new(
+        factor,
+        u64::from(term.temperature),
+        u64::from(term.nitrate_target),
     )
 }
 
-// The same in a season, with U of the design's t at the season's temperature.
-fn season_removes(
-    way: Way,
-    process: Process,
-    concentrations: Concentrations,
-    reactor: Reactor,
-    season: Season,
-) -> u64
-    requires { ConcentrationRanges concentrations × ReactorBounds reactor × SeasonBounds season }
-    ensures { (result ≡ season_removes way process concentrations reactor season) × (result ≤ most_removes) }
-{
-    let age = reactor.age;
-    let fraction = season_fraction(reactor.fraction, age, season);
-    let corrected = crate::age::corrected_by(age, season.decay);
-    removes_from_200(
-        way,
-        process,
-        concentrations,
-        fraction,
-        season.temperature,
-        corrected,
-    )
-}
+impl Season {
+    // Past the consent's count.
+    const NONE: Season = Season {
+        temperature: 0,
+        target: 0,
+        aerobic_age: 0,
+        decay: 0,
+    };
 
-// Nitrification is kept in entry i, or there is no such term.
-fn nitrified_in(count: u32, i: u32, age: u64, season: Season) -> bool
-    requires { Between 1 most_age age × SeasonBounds season }
-    ensures { result ≡ (leb count i || season_nitrifies age season) }
-{
-    if count <= i {
-        return true;
+    // A temperature and a target with the plant's SF.
+    #[tactic(auto, unfolding(crate::specs::Seasons::season_with))]
+    fn new(factor: u64, temperature: u64, target: u64) -> Season
+        requires { Between 145 180 factor × TermTemperature temperature }
+        ensures { result ≡ season_with factor temperature target }
+    {
+        Season {
+            temperature,
+            target,
+            aerobic_age: aerobic_age(factor, temperature),
+            decay: decay(temperature),
+        }
     }
-    aerobic_share(season.aerobic_age, age) <= 1000
-}
 
-// The nitrate is covered in entry i, or there is no such term.
-fn covered_in(
-    count: u32,
-    i: u32,
-    way: Way,
-    process: Process,
-    concentrations: Concentrations,
-    reactor: Reactor,
-    season: Season,
-) -> bool
-    requires { ConcentrationRanges concentrations × ReactorBounds reactor × SeasonBounds season }
-    ensures { result ≡ (leb count i || season_covered way process concentrations reactor season) }
-{
-    if count <= i {
-        return true;
+    // Nitrification is kept at the sludge age t.
+    #[tactic(auto, unfolding(crate::specs::Seasons::season_nitrifies))]
+    pub(crate) fn nitrifies(self, age: u64) -> bool
+        requires { Between 1 most_age age × SeasonBounds self }
+        ensures { result ≡ season_nitrifies age self }
+    {
+        aerobic_share(self.aerobic_age, age) <= 1000
     }
-    let removes = season_removes(way, process, concentrations, reactor, season);
-    let denitrified = crate::nitrate::denitrified(reactor.nitrified, season.target);
-    crate::nitrate::covered(removes, reactor.removed_by_dose, denitrified)
-}
 
-// Nitrification is kept in every term.
-pub(crate) fn every_nitrified(age: u64, seasons: Seasons) -> bool
-    requires { Between 1 most_age age × SeasonsBounds seasons }
-    ensures { result ≡ every_season (season_nitrifies age) seasons }
-{
-    let count = seasons.count;
-    let first = seasons.first;
-    let second = seasons.second;
-    let third = seasons.third;
-    let fourth = seasons.fourth;
-    nitrified_in(count, 0, age, first)
-        & (nitrified_in(count, 1, age, second)
-            & (nitrified_in(count, 2, age, third) & nitrified_in(count, 3, age, fourth)))
-}
-
-// The nitrate is covered in every term.
-pub(crate) fn every_covered(
-    way: Way,
-    process: Process,
-    concentrations: Concentrations,
-    reactor: Reactor,
-    seasons: Seasons,
-) -> bool
-    requires { ConcentrationRanges concentrations × ReactorBounds reactor × SeasonsBounds seasons }
-    ensures { result ≡ every_season (season_covered way process concentrations reactor) seasons }
-{
-    let count = seasons.count;
-    let first = seasons.first;
-    let second = seasons.second;
-    let third = seasons.third;
-    let fourth = seasons.fourth;
-    covered_in(count, 0, way, process, concentrations, reactor, first)
-        & (covered_in(count, 1, way, process, concentrations, reactor, second)
-            & (covered_in(count, 2, way, process, concentrations, reactor, third)
-                & covered_in(count, 3, way, process, concentrations, reactor, fourth)))
-}
-
-// The figures that explain a reactor in entry i; zeros where there is no such term.
-pub fn explained_in(
-    count: u32,
-    i: u32,
-    way: Way,
-    process: Process,
-    concentrations: Concentrations,
-    reactor: Reactor,
-    season: Season,
-) -> TermExplained
-    requires { ConcentrationRanges concentrations × ReactorBounds reactor × SeasonBounds season }
-    ensures { result ≡ entry_explained count i way process concentrations reactor season }
-{
-    if count <= i {
-        return TermExplained {
-            aerobic_share: 0,
-            fraction: 0,
-            denitrified: 0,
-            removed_by_bod: 0,
-            removable: 0,
-        };
+    // The fraction left for denitrification: the smaller of f and 1000 − up(1000a / t).
+    #[tactic(auto, unfolding(crate::specs::Seasons::season_fraction))]
+    fn fraction(self, fraction: u64, age: u64) -> u64
+        requires { (fraction ≤ most_fraction) × Between 1 most_age age × SeasonBounds self }
+        ensures { (result ≡ season_fraction fraction age self) × (result ≤ most_fraction) }
+    {
+        let left = 1000_u64.saturating_sub(aerobic_share(self.aerobic_age, age));
+        fraction.min(left)
     }
-    let age = reactor.age;
-    let share = aerobic_share(season.aerobic_age, age);
-    let fraction = season_fraction(reactor.fraction, age, season);
-    let denitrified = crate::nitrate::denitrified(reactor.nitrified, season.target);
-    let removed_by_bod = season_removes(way, process, concentrations, reactor, season) / 1000;
-    TermExplained {
-        aerobic_share: share,
-        fraction,
-        denitrified,
-        removed_by_bod,
-        removable: removed_by_bod + reactor.removed_by_dose,
+
+    // K × C or what stands for it, with U of the design's t at the season's temperature.
+    #[tactic(auto, unfolding(crate::specs::Seasons::season_removes))]
+    fn removes(self, accepted: &Accepted, reactor: Reactor) -> u64
+        requires { ReactorBounds reactor × SeasonBounds self }
+        ensures { (result ≡ season_removes accepted.now.plant accepted.now.concentrations reactor self) × (result ≤ most_removes) }
+    {
+        let age = reactor.age;
+        let fraction = self.fraction(reactor.fraction, age);
+        removes_from_200(
+            accepted,
+            fraction,
+            self.temperature,
+            corrected_by(age, self.decay),
+        )
+    }
+
+    // The nitrate is covered.
+    #[tactic(auto, unfolding(crate::specs::Seasons::season_covered))]
+    pub(crate) fn covers(self, accepted: &Accepted, reactor: Reactor) -> bool
+        requires { ReactorBounds reactor × SeasonBounds self }
+        ensures { result ≡ season_covered accepted.now.plant accepted.now.concentrations reactor self }
+    {
+        let removes = self.removes(accepted, reactor);
+        let denitrified = denitrified(reactor.nitrified, self.target);
+        covered(removes, reactor.removed_by_dose, denitrified)
+    }
+
+    // The figures that explain a reactor.
+    #[tactic(auto, unfolding(crate::specs::Seasons::season_explained, rules::specs::AgeNitrate::removed_by_bod, rules::specs::AgeNitrate::removable))]
+    pub(crate) fn explained(self, accepted: &Accepted, reactor: Reactor) -> TermExplained
+        requires { ReactorBounds reactor × SeasonBounds self }
+        ensures { result ≡ season_explained accepted.now.plant accepted.now.concentrations reactor self }
+    {
+        let removed_by_bod = self.removes(accepted, reactor) / 1000;
+        TermExplained {
+            aerobic_share: aerobic_share(self.aerobic_age, reactor.age),
+            fraction: self.fraction(reactor.fraction, reactor.age),
+            denitrified: denitrified(reactor.nitrified, self.target),
+            removed_by_bod,
+            removable: removed_by_bod + reactor.removed_by_dose,
+        }
+    }
+}
+
+impl Seasons {
+    // Of accepted data.
+    pub(crate) fn new(accepted: &Accepted) -> Seasons
+        ensures { SeasonsAt accepted.now.plant accepted.now.concentrations result }
+    {
+        let plant = &accepted.plant;
+        let factor = safety_factor(u64::from(plant.load));
+        Seasons {
+            inflow: Inflow::new(accepted),
+            design: Season::new(
+                factor,
+                u64::from(plant.design_temperature),
+                u64::from(plant.nitrate_target),
+            ),
+            count: plant.consent.count,
+            terms: array::from_fn(|i| term_season(accepted, factor, i)),
+        }
     }
 }

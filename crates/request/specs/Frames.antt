@@ -1,10 +1,9 @@
 -- The frame of a request: its version, the only one that is answered, its words and its length, and the numbers of a malformed
 -- one. Assumes nothing.
-use Rattle.std.specs.Prelude.{ℕ, ◌+◌, ◌*◌, cond, List, leb, eqb, length}
+use Rattle.std.specs.Prelude.{ℕ, ◌+◌, ◌*◌, cond, List, leb, eqb, length, Result, Ok, Err}
 use Rattle.words.specs.Bytes.{word}
-use Rattle.rules.specs.Limits.{most_lines}
+use Rattle.rules.specs.Limits.{most_terms, most_lines}
 use Rattle.request.specs.declared.Fault.{Fault}
-use Rattle.request.specs.declared.Frame.{Frame}
 
 -- the newest version
 abbrev pub version : ℕ
@@ -19,7 +18,7 @@ abbrev pub term_words : ℕ
 term_words = 6
 
 abbrev pub consent_words : ℕ
-consent_words = 1 + 4 * term_words
+consent_words = 1 + most_terms * term_words
 
 abbrev pub way_word : ℕ
 way_word = plant_words + consent_words
@@ -48,11 +47,11 @@ longest_request = 4_096
 
 -- a request of so many words: 102 by its first word, which a version of another length has too; then 101 by its length, also
 -- where there is no first word
-unfoldable pub frame_of : List ℕ → ℕ → Frame
+unfoldable pub frame_of : List ℕ → ℕ → Result (Unit {0}) Fault
 frame_of bytes words =
     cond (leb 4 (length bytes))
-    (cond (eqb (word bytes 0) version) (cond (eqb (length bytes) (4 * words)) Frame.Whole (Frame.Malformed Fault.Length)) (Frame.Malformed Fault.Version))
-    (Frame.Malformed Fault.Length)
+    (cond (eqb (word bytes 0) version) (cond (eqb (length bytes) (4 * words)) (Ok tt) (Err Fault.Length)) (Err Fault.Version))
+    (Err Fault.Length)
 
 -- a malformed request's number
 abbrev pub fault_number : Fault → ℕ

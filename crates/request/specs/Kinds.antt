@@ -1,44 +1,23 @@
--- The kinds of a request by their codes. A code above the last is malformed (`kinds_known` of Layout), and stands here with
--- the last. Assumes nothing.
-use Rattle.std.specs.Prelude.{ℕ, cond, eqb}
+-- A request's readings by their codes (those of the plant's kinds are in rules/specs/Kinds.antt), and what decoding gives where a
+-- code may stand for no kind. Assumes nothing.
+use Rattle.std.specs.Prelude.{ℕ, Bool, cond, eqb, Result, Ok, Err}
 use Rattle.std.specs.Float.{binary32}
 use Rattle.std.specs.Float.Ieee.{of_bits}
-use Rattle.rules.specs.declared.Steps.{Steps}
-use Rattle.rules.specs.declared.Process.{Process}
-use Rattle.rules.specs.declared.Precipitant.{Precipitant}
-use Rattle.rules.specs.declared.TankFlow.{TankFlow}
-use Rattle.rules.specs.declared.Removal.{Removal}
-use Rattle.rules.specs.declared.PrimarySettling.{PrimarySettling}
-use Rattle.rules.specs.declared.Way.{Way}
 use Rattle.rules.specs.declared.Reading.{Reading}
 use Rattle.rules.specs.declared.Reading.TheVariants.{Measured, Below, Heads}
+use Rattle.request.specs.declared.Fault.{Fault}
 
-unfoldable pub process_of : ℕ → Process
-process_of code =
-    cond (eqb code 0) Process.PreAnoxic
-    (cond (eqb code 1) Process.Simultaneous
-    (cond (eqb code 2) Process.Intermittent
-    (cond (eqb code 3) (Process.StepFeed Steps.Two) (Process.StepFeed Steps.Three))))
-
-unfoldable pub precipitant_of : ℕ → Precipitant
-precipitant_of code = cond (eqb code 0) Precipitant.Iron Precipitant.Aluminium
-
-unfoldable pub tank_flow_of : ℕ → TankFlow
-tank_flow_of code = cond (eqb code 0) TankFlow.Horizontal TankFlow.Vertical
-
-unfoldable pub removal_of : ℕ → Removal
-removal_of code = cond (eqb code 0) Removal.Scraper (cond (eqb code 1) Removal.Suction Removal.Hopper)
-
-unfoldable pub primary_settling_of : ℕ → PrimarySettling
-primary_settling_of code =
-    cond (eqb code 0) PrimarySettling.None (cond (eqb code 1) PrimarySettling.Short PrimarySettling.Long)
-
-unfoldable pub way_of : ℕ → Way
-way_of code = cond (eqb code 0) Way.Bod Way.Cod
+-- the largest code of a reading's kind
+abbrev pub last_reading : ℕ
+last_reading = 2
 
 -- a reading, by its kind's code and its second word: the bits of an f32 (every pattern of a NaN is the one NaN), or a head
 -- count
-unfoldable pub reading_of : ℕ → ℕ → Reading
+abbrev pub reading_of : ℕ → ℕ → Reading
 reading_of code w =
     cond (eqb code 0) (Measured (of_bits binary32 w))
     (cond (eqb code 1) (Below (of_bits binary32 w)) (Heads w))
+
+-- a value where its kinds are known, else 103
+abbrev pub where_known : {A : Type 0} → Bool → A → Result A Fault
+where_known known x = cond known (Ok x) (Err Fault.Kind)

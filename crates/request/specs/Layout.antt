@@ -1,29 +1,25 @@
 -- The layout of a request with plant data: the data, which are version, plant, readings, consent and way, and then the own words of
 -- the call that it is for. Each word is a 32-bit unsigned number in four bytes, the lowest first. Assumes nothing.
-use Rattle.std.specs.Prelude.{ℕ, ◌+◌, Bool, cond, ◌&&◌, List, leb, get_or}
+use Rattle.std.specs.Prelude.{ℕ, ◌+◌, Bool, ◌&&◌, List, leb, get_or, Result}
+use Rattle.std.specs.Result.{result_and}
 use Rattle.words.specs.Bytes.{word, words_from}
 use Rattle.rules.specs.Limits.{most_lines}
 use Rattle.request.specs.Frames.{plant_words, way_word, data_words, works_words, frame_of}
 use Rattle.request.specs.ConsentLayout.{consent_of}
-use Rattle.request.specs.Kinds.{process_of, precipitant_of, tank_flow_of, removal_of, primary_settling_of, way_of, reading_of}
-use Rattle.rules.specs.declared.Process.{Process}
-use Rattle.rules.specs.declared.Precipitant.{Precipitant}
-use Rattle.rules.specs.declared.TankFlow.{TankFlow}
-use Rattle.rules.specs.declared.Removal.{Removal}
-use Rattle.rules.specs.declared.PrimarySettling.{PrimarySettling}
+use Rattle.rules.specs.Kinds.{last_process, process_of, last_precipitant, precipitant_of, last_tank_flow, tank_flow_of}
+use Rattle.rules.specs.Kinds.{last_removal, removal_of, last_primary_settling, primary_settling_of, last_way, way_of}
+use Rattle.request.specs.Kinds.{last_reading, reading_of, where_known}
 use Rattle.rules.specs.declared.Consent.{Consent}
-use Rattle.rules.specs.declared.Way.{Way}
 use Rattle.rules.specs.declared.Plant.{Plant}
 use Rattle.rules.specs.declared.Readings.{Readings}
 use Rattle.rules.specs.declared.Candidate.{Candidate}
 use Rattle.rules.specs.declared.Split.{Split}
 use Rattle.request.specs.declared.Fault.{Fault}
-use Rattle.request.specs.declared.Frame.{Frame}
-use Rattle.request.specs.declared.Decoded.{Decoded}
+use Rattle.request.specs.declared.Data.{Data}
 
--- the plant with these kinds, this consent and this way, its figures the words 1 to 13 and 29 of the data
-abbrev pub plant_with : List ℕ → Process → Precipitant → TankFlow → Removal → PrimarySettling → Consent → Way → Plant
-plant_with words process precipitant tank removal settling consent way =
+-- the plant, words 1 to 18 and 29 of the data, with its consent and the way by its code
+abbrev pub plant_of : List ℕ → Consent → ℕ → Plant
+plant_of words consent way =
     record {
       load = get_or words 1 0;
       flow = get_or words 2 0;
@@ -38,27 +34,15 @@ plant_with words process precipitant tank removal settling consent way =
       oxygen_saturation = get_or words 11 0;
       site_surface = get_or words 12 0;
       site_depth = get_or words 13 0;
-      process = process;
-      precipitant = precipitant;
-      tank = tank;
-      removal = removal;
-      primary_settling = settling;
+      process = process_of (get_or words 14 0);
+      precipitant = precipitant_of (get_or words 15 0);
+      tank = tank_flow_of (get_or words 16 0);
+      removal = removal_of (get_or words 17 0);
+      primary_settling = primary_settling_of (get_or words 18 0);
       dose = get_or words 29 0;
       consent = consent;
-      way = way;
+      way = way_of way;
     }
-
--- the plant, with the kinds of the words 14 to 18 and the way by its code
-abbrev pub plant_of : List ℕ → Consent → ℕ → Plant
-plant_of words consent way =
-    plant_with words
-    (process_of (get_or words 14 0))
-    (precipitant_of (get_or words 15 0))
-    (tank_flow_of (get_or words 16 0))
-    (removal_of (get_or words 17 0))
-    (primary_settling_of (get_or words 18 0))
-    consent
-    (way_of way)
 
 -- the readings, words 19 to 28 of the data
 abbrev pub readings_of : List ℕ → Readings
@@ -71,36 +55,37 @@ readings_of words =
       phosphorus = reading_of (get_or words 27 0) (get_or words 28 0);
     }
 
--- every kind is one of the layout's: processes to readings, and the way
+-- each kind of the plant is one of the layout's, the way too; each kind of a reading; and all of these
+abbrev pub plant_kinds_known : List ℕ → ℕ → Bool
+plant_kinds_known words way =
+    leb (get_or words 14 0) last_process
+    && leb (get_or words 15 0) last_precipitant
+    && leb (get_or words 16 0) last_tank_flow
+    && leb (get_or words 17 0) last_removal
+    && leb (get_or words 18 0) last_primary_settling
+    && leb way last_way
+
+abbrev pub reading_kinds_known : List ℕ → Bool
+reading_kinds_known words =
+    leb (get_or words 19 0) last_reading
+    && leb (get_or words 21 0) last_reading
+    && leb (get_or words 23 0) last_reading
+    && leb (get_or words 25 0) last_reading
+    && leb (get_or words 27 0) last_reading
+
 abbrev pub kinds_known : List ℕ → ℕ → Bool
-kinds_known words way =
-    leb (get_or words 14 0) 4
-    && leb (get_or words 15 0) 1
-    && leb (get_or words 16 0) 1
-    && leb (get_or words 17 0) 2
-    && leb (get_or words 18 0) 2
-    && leb (get_or words 19 0) 2
-    && leb (get_or words 21 0) 2
-    && leb (get_or words 23 0) 2
-    && leb (get_or words 25 0) 2
-    && leb (get_or words 27 0) 2
-    && leb way 1
+kinds_known words way = plant_kinds_known words way && reading_kinds_known words
 
 -- the data's words decoded, with the consent and the code of the way: 103, else what they hold
-unfoldable pub decode_words : List ℕ → Consent → ℕ → Decoded
+unfoldable pub decode_words : List ℕ → Consent → ℕ → Result Data Fault
 decode_words words consent way =
-    cond (kinds_known words way)
-    (Decoded.Data (record { plant = plant_of words consent way; readings = readings_of words }))
-    (Decoded.Malformed Fault.Kind)
-
--- what a whole request holds
-abbrev pub on_frame : Frame → Decoded → Decoded
-on_frame Frame.Whole d = d
-on_frame (Frame.Malformed fault) d = Decoded.Malformed fault
+    where_known (kinds_known words way) (record { plant = plant_of words consent way; readings = readings_of words })
 
 -- the data of a request for a call with so many own words
-unfoldable pub decode : List ℕ → ℕ → Decoded
-decode bytes own = on_frame (frame_of bytes (data_words + own)) (decode_words (words_from bytes 0 plant_words) (consent_of bytes plant_words) (word bytes way_word))
+unfoldable pub decode : List ℕ → ℕ → Result Data Fault
+decode bytes own =
+    result_and (frame_of bytes (data_words + own))
+    (decode_words (words_from bytes 0 plant_words) (consent_of bytes plant_words) (word bytes way_word))
 
 -- the candidate that a call is asked of: the first three of its own words, which come after the data
 abbrev pub asked_candidate : List ℕ → Candidate

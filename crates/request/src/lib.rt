@@ -1,17 +1,19 @@
 // A request's bytes decoded by the layout of the newest version, or found malformed.
 #![tactic(auto)]
 
-ghost use Rattle.std.specs.Prelude.{◌≡◌, ◌+◌, ◌*◌, ◌≤◌, length};
-ghost use Rattle.request.specs.Kinds.{process_of, precipitant_of, tank_flow_of, removal_of, primary_settling_of, way_of, reading_of};
+ghost use Rattle.std.specs.Prelude.{◌≡◌, ◌+◌, ◌*◌, ◌≤◌, leb, length, OnOk};
+ghost use Rattle.request.specs.declared.Fault.TheVariants.{Kind};
+ghost use Rattle.request.specs.Kinds.{last_reading, reading_of, where_known};
 ghost use Rattle.request.specs.Frames.{plant_words, term_words, consent_words, data_words, request_length, longest_request, candidate_words, works_words, line_words};
-ghost use Rattle.request.specs.Layout.{plant_of, readings_of, kinds_known, decode_words, decode, asked_candidate, asked_split, asked_line};
-ghost use Rattle.request.specs.ConsentLayout.{date_of, term_of, consent_of, decode_inquiry};
 ghost use Rattle.request.specs.Frames.{frame_of, fault_number};
+ghost use Rattle.request.specs.Layout.{plant_of, readings_of, plant_kinds_known, reading_kinds_known, decode, asked_candidate, asked_split, asked_line};
+ghost use Rattle.request.specs.ConsentLayout.{date_of, term_of, consent_of, decode_inquiry};
 
 use rules::{
-    Candidate, Consent, Date, Plant, Precipitant, PrimarySettling, Process, Reading, Readings,
-    Removal, Split, Steps, TankFlow, Term, Way,
+    Candidate, Consent, Date, MOST_LINES, MOST_TERMS, Plant, Precipitant, PrimarySettling, Process,
+    Reading, Readings, Removal, Split, TankFlow, Term, UnknownKind, Way,
 };
+use std::array;
 
 // What every request with plant data holds besides its call's own words.
 #[derive(Clone, Copy)]
@@ -20,20 +22,21 @@ pub struct Data {
     pub readings: Readings,
 }
 
-// What is wrong with a malformed request: its length, its version, or a kind's code. The version is tested first, where
-// there is one.
-#[derive(Clone, Copy)]
+// What is wrong with a malformed request, by the number that it is answered by: its length, its version, or a kind's code. The
+// version is tested first, where there is one.
+#[derive(Clone, Copy, Debug, PartialEq, Eq)]
 pub enum Fault {
-    Length,
-    Version,
-    Kind,
+    Length = 101,
+    Version = 102,
+    Kind = 103,
 }
 
-// What decoding gives: what the request holds, or what is wrong with it.
-#[derive(Clone, Copy)]
-pub enum Decoded {
-    Data(Data),
-    Malformed(Fault),
+impl From<UnknownKind> for Fault {
+    ghost from_gives = { λ _ fault. fault ≡ Kind };
+
+    fn from(_code: UnknownKind) -> Fault {
+        Fault::Kind
+    }
 }
 
 // What a request for the target of a date holds.
@@ -43,140 +46,59 @@ pub struct Inquiry {
     pub date: Date,
 }
 
-// What decoding such a request gives.
-#[derive(Clone, Copy)]
-pub enum DecodedInquiry {
-    Inquiry(Inquiry),
-    Malformed(Fault),
-}
-
-// Whether a request has the newest version and its length.
-#[derive(Clone, Copy)]
-pub enum Frame {
-    Whole,
-    Malformed(Fault),
-}
-
 // The newest version, the only one that is answered.
 const VERSION: u32 = 4;
 
 // The words before the consent's: version, plant, readings and dose.
 const PLANT_WORDS: usize = 30;
 
+// The words of a term: first and last day, temperature and target.
+const TERM_WORDS: usize = 6;
+
+// The words of the consent: the number of terms, and four terms.
+const CONSENT_WORDS: usize = 1 + MOST_TERMS * TERM_WORDS;
+
 // The way's word, after the consent's.
-const WAY_WORD: usize = 55;
+const WAY_WORD: usize = PLANT_WORDS + CONSENT_WORDS;
 
 // The words of the data: those, and the way's.
-pub const DATA_WORDS: usize = 56;
+pub const DATA_WORDS: usize = WAY_WORD + 1;
 
-// The words of a request for the target of a date: version, consent, month and day.
-const INQUIRY_WORDS: usize = 28;
+// The date's words in a request for the target of a date, after version and consent.
+const DATE_WORD: usize = 1 + CONSENT_WORDS;
+
+// The words of such a request: those before the date, month and day.
+const INQUIRY_WORDS: usize = DATE_WORD + 2;
 
 // The own words of a call that is asked of a candidate.
 pub const CANDIDATE_WORDS: usize = 3;
 
 // The own words of a call that is asked of a works: the number of lines and eight shares.
-pub const WORKS_WORDS: usize = 9;
+pub const WORKS_WORDS: usize = 1 + MOST_LINES;
 
 // The own words of a call that is asked of a line of a works: those, and its number.
-pub const LINE_WORDS: usize = 10;
+pub const LINE_WORDS: usize = WORKS_WORDS + 1;
 
 // The bytes of the longest request.
 pub const LONGEST_REQUEST: usize = 4_096;
 
-// The kinds by their codes. A code above the last stands with the last: `kinds_known` refuses it.
-fn process(code: u32) -> Process
-    ensures { result ≡ process_of code }
-{
-    match code {
-        0 => Process::PreAnoxic,
-        1 => Process::Simultaneous,
-        2 => Process::Intermittent,
-        3 => Process::StepFeed(Steps::Two),
-        _ => Process::StepFeed(Steps::Three),
-    }
-}
-
-fn precipitant(code: u32) -> Precipitant
-    ensures { result ≡ precipitant_of code }
-{
-    match code {
-        0 => Precipitant::Iron,
-        _ => Precipitant::Aluminium,
-    }
-}
-
-fn tank_flow(code: u32) -> TankFlow
-    ensures { result ≡ tank_flow_of code }
-{
-    match code {
-        0 => TankFlow::Horizontal,
-        _ => TankFlow::Vertical,
-    }
-}
-
-fn removal(code: u32) -> Removal
-    ensures { result ≡ removal_of code }
-{
-    match code {
-        0 => Removal::Scraper,
-        1 => Removal::Suction,
-        _ => Removal::Hopper,
-    }
-}
-
-fn primary_settling(code: u32) -> PrimarySettling
-    ensures { result ≡ primary_settling_of code }
-{
-    match code {
-        0 => PrimarySettling::None,
-        1 => PrimarySettling::Short,
-        _ => PrimarySettling::Long,
-    }
-}
-
-fn way(code: u32) -> Way
-    ensures { result ≡ way_of code }
-{
-    match code {
-        0 => Way::Bod,
-        _ => Way::Cod,
-    }
-}
-
 // A reading by its kind's code and its second word, the bits of an f32 or a head count.
-fn reading(code: u32, value: u32) -> Reading
-    ensures { result ≡ reading_of code value }
+fn reading(code: u32, value: u32) -> Result<Reading, Fault>
+    ensures { result ≡ where_known (leb code last_reading) (reading_of code value) }
 {
     match code {
-        0 => Reading::Measured(words::float(value)),
-        1 => Reading::Below(words::float(value)),
-        _ => Reading::Heads(value),
+        0 => Ok(Reading::Measured(words::float(value))),
+        1 => Ok(Reading::Below(words::float(value))),
+        2 => Ok(Reading::Heads(value)),
+        _ => Err(Fault::Kind),
     }
-}
-
-// Every kind is one of the layout's.
-fn kinds_known(words: [u32; PLANT_WORDS], way: u32) -> bool
-    ensures { result ≡ kinds_known words way }
-{
-    (words[14] <= 4)
-        & (words[15] <= 1)
-        & (words[16] <= 1)
-        & (words[17] <= 2)
-        & (words[18] <= 2)
-        & (words[19] <= 2)
-        & (words[21] <= 2)
-        & (words[23] <= 2)
-        & (words[25] <= 2)
-        & (words[27] <= 2)
-        & (way <= 1)
 }
 
 // The plant, words 1 to 18 and 29, with its consent and the code of its way.
-fn plant(words: [u32; PLANT_WORDS], consent: Consent, code: u32) -> Plant
-    ensures { result ≡ plant_of words consent code }
+fn plant(words: [u32; PLANT_WORDS], consent: Consent, way: u32) -> Result<Plant, Fault>
+    ensures { result ≡ where_known (plant_kinds_known words way) (plant_of words consent way) }
 {
-    Plant {
+    Ok(Plant {
         load: words[1],
         flow: words[2],
         wet_weather_flow: words[3],
@@ -190,28 +112,28 @@ fn plant(words: [u32; PLANT_WORDS], consent: Consent, code: u32) -> Plant
         oxygen_saturation: words[11],
         site_surface: words[12],
         site_depth: words[13],
-        process: process(words[14]),
-        precipitant: precipitant(words[15]),
-        tank: tank_flow(words[16]),
-        removal: removal(words[17]),
-        primary_settling: primary_settling(words[18]),
+        process: Process::try_from(words[14])?,
+        precipitant: Precipitant::try_from(words[15])?,
+        tank: TankFlow::try_from(words[16])?,
+        removal: Removal::try_from(words[17])?,
+        primary_settling: PrimarySettling::try_from(words[18])?,
         dose: words[29],
         consent,
-        way: way(code),
-    }
+        way: Way::try_from(way)?,
+    })
 }
 
 // The readings, words 19 to 28.
-fn readings(words: [u32; PLANT_WORDS]) -> Readings
-    ensures { result ≡ readings_of words }
+fn readings(words: [u32; PLANT_WORDS]) -> Result<Readings, Fault>
+    ensures { result ≡ where_known (reading_kinds_known words) (readings_of words) }
 {
-    Readings {
-        bod: reading(words[19], words[20]),
-        cod: reading(words[21], words[22]),
-        solids: reading(words[23], words[24]),
-        nitrogen: reading(words[25], words[26]),
-        phosphorus: reading(words[27], words[28]),
-    }
+    Ok(Readings {
+        bod: reading(words[19], words[20])?,
+        cod: reading(words[21], words[22])?,
+        solids: reading(words[23], words[24])?,
+        nitrogen: reading(words[25], words[26])?,
+        phosphorus: reading(words[27], words[28])?,
+    })
 }
 
 // A day: two words, month and day.
@@ -230,11 +152,9 @@ fn term(bytes: &[u8], at: usize) -> Term
     requires { (at + term_words ≤ data_words) × (4 * (at + term_words) ≤ length bytes.now) }
     ensures { result ≡ term_of bytes.now at }
 {
-    let first = date(bytes, at);
-    let last = date(bytes, at + 2);
     Term {
-        first,
-        last,
+        first: date(bytes, at),
+        last: date(bytes, at + 2),
         temperature: words::word(bytes, at + 4),
         nitrate_target: words::word(bytes, at + 5),
     }
@@ -245,81 +165,59 @@ fn consent(bytes: &[u8], at: usize) -> Consent
     requires { (at ≤ plant_words) × (4 * (at + consent_words) ≤ length bytes.now) }
     ensures { result ≡ consent_of bytes.now at }
 {
-    let count = words::word(bytes, at);
-    let first = term(bytes, at + 1);
-    let second = term(bytes, at + 7);
-    let third = term(bytes, at + 13);
-    let fourth = term(bytes, at + 19);
     Consent {
-        count,
-        first,
-        second,
-        third,
-        fourth,
+        count: words::word(bytes, at),
+        terms: array::from_fn(|i| term(bytes, at + 1 + TERM_WORDS * i)),
     }
-}
-
-// The data's words decoded, with the consent and the code of the way.
-fn decode_words(words: [u32; PLANT_WORDS], consent: Consent, way: u32) -> Decoded
-    ensures { result ≡ decode_words words consent way }
-{
-    if !kinds_known(words, way) {
-        return Decoded::Malformed(Fault::Kind);
-    }
-    Decoded::Data(Data {
-        plant: plant(words, consent, way),
-        readings: readings(words),
-    })
 }
 
 // A request of the newest version and of so many words, or what is wrong with it.
-fn framed(bytes: &[u8], words: usize) -> Frame
+#[tactic(auto, unfolding(crate::specs::Frames::frame_of))]
+fn framed(bytes: &[u8], words: usize) -> Result<(), Fault>
     requires { 4 * words ≤ longest_request }
-    ensures { result ≡ frame_of bytes.now words }
+    ensures frame { result ≡ frame_of bytes.now words }
+    ensures whole { OnOk result (length bytes.now ≡ 4 * words) }
 {
     if bytes.len() < 4 {
-        return Frame::Malformed(Fault::Length);
+        return Err(Fault::Length);
     }
     if words::word(bytes, 0) != VERSION {
-        return Frame::Malformed(Fault::Version);
+        return Err(Fault::Version);
     }
     if bytes.len() != 4 * words {
-        return Frame::Malformed(Fault::Length);
+        return Err(Fault::Length);
     }
-    Frame::Whole
+    Ok(())
 }
 
 // The data of a request for a call with so many own words.
-pub fn decode(bytes: &[u8], own: usize) -> Decoded
+#[tactic(auto, unfolding(crate::specs::Layout::decode, crate::specs::Layout::decode_words))]
+pub fn decode(bytes: &[u8], own: usize) -> Result<Data, Fault>
     requires { request_length own ≤ longest_request }
-    ensures { result ≡ decode bytes.now own }
+    ensures data { result ≡ decode bytes.now own }
+    ensures whole { OnOk result (length bytes.now ≡ request_length own) }
 {
-    match framed(bytes, DATA_WORDS + own) {
-        Frame::Malformed(fault) => Decoded::Malformed(fault),
-        Frame::Whole => {
-            let mut words = [0u32; PLANT_WORDS];
-            words::read_words(bytes, &mut words);
-            decode_words(
-                words,
-                consent(bytes, PLANT_WORDS),
-                words::word(bytes, WAY_WORD),
-            )
-        }
-    }
+    framed(bytes, DATA_WORDS + own)?;
+    let mut words = [0; PLANT_WORDS];
+    words::read_words(bytes, &mut words);
+    let consent = consent(bytes, PLANT_WORDS);
+    let way = words::word(bytes, WAY_WORD);
+    Ok(Data {
+        plant: plant(words, consent, way)?,
+        readings: readings(words)?,
+    })
 }
 
 // The terms and the date of a request for the target in force.
-pub fn decode_inquiry(bytes: &[u8]) -> DecodedInquiry
+#[tactic(auto, unfolding(crate::specs::ConsentLayout::decode_inquiry))]
+pub fn decode_inquiry(bytes: &[u8]) -> Result<Inquiry, Fault>
     ensures { result ≡ decode_inquiry bytes.now }
 {
-    match framed(bytes, INQUIRY_WORDS) {
-        Frame::Malformed(fault) => DecodedInquiry::Malformed(fault),
-        Frame::Whole => {
-            let consent = consent(bytes, 1);
-            let date = date(bytes, 26);
-            DecodedInquiry::Inquiry(Inquiry { consent, date })
-        }
-    }
+    framed(bytes, INQUIRY_WORDS)?;
+    Ok(Inquiry {
+        consent: consent(bytes, 1),
+        date: date(bytes, DATE_WORD),
+    })
 }
 
 // The candidate that a call is asked of: the call's own words, which come after the data.
@@ -339,18 +237,10 @@ pub fn split(bytes: &[u8]) -> Split
     requires { request_length works_words ≤ length bytes.now }
     ensures { result ≡ asked_split bytes.now }
 {
-    let count = words::word(bytes, DATA_WORDS);
-    let shares = [
-        words::word(bytes, DATA_WORDS + 1),
-        words::word(bytes, DATA_WORDS + 2),
-        words::word(bytes, DATA_WORDS + 3),
-        words::word(bytes, DATA_WORDS + 4),
-        words::word(bytes, DATA_WORDS + 5),
-        words::word(bytes, DATA_WORDS + 6),
-        words::word(bytes, DATA_WORDS + 7),
-        words::word(bytes, DATA_WORDS + 8),
-    ];
-    Split { count, shares }
+    Split {
+        count: words::word(bytes, DATA_WORDS),
+        shares: array::from_fn(|i| words::word(bytes, DATA_WORDS + 1 + i)),
+    }
 }
 
 // The number of the line that is asked for.
@@ -361,13 +251,9 @@ pub fn line_number(bytes: &[u8]) -> u32
     words::word(bytes, DATA_WORDS + WORKS_WORDS)
 }
 
-// The number that a malformed request is answered by.
+// The number that a malformed request is answered by: the number of the fault's variant, under the name of the definition.
 pub fn fault_number(fault: Fault) -> u32
     ensures { result ≡ fault_number fault }
 {
-    match fault {
-        Fault::Length => 101,
-        Fault::Version => 102,
-        Fault::Kind => 103,
-    }
+    fault as u32
 }

@@ -1,5 +1,4 @@
--- The laws behind the calls on a state: its bytes, and what the calls give back.
+-- The laws behind the calls on a state: its bytes, its words, and that it is read back as it was written.
 pub mod Bytes
-pub mod Calls
 pub mod StateWords
 pub mod ReadBack

@@ -1,4 +1,4 @@
-// Arithmetic that several steps share: a quotient rounded up, a difference held at 0, the larger of two, a range, a wider number.
+// Arithmetic that several steps share: a quotient rounded up, a difference held at 0, the larger of two, a range.
 #![tactic(auto)]
 
 ghost use Rattle.std.specs.Prelude.{◌≡◌, ◌+◌, ◌-◌, ◌^◌, ◌≤◌, ◌<◌, max};
@@ -10,33 +10,26 @@ pub fn round_up(a: u64, d: u64) -> u64
     requires { (0 < d) × (a + d ≤ 2 ^ 64) }
     ensures { result ≡ up a d }
 {
-    (a + (d - 1)) / d
+    a.div_ceil(d)
 }
 
 // a less b, held at 0.
 pub fn less(a: u64, b: u64) -> u64
     ensures { result ≡ a - b }
 {
-    if a < b { 0 } else { a - b }
+    a.saturating_sub(b)
 }
 
 // The larger of two amounts.
 pub fn larger(a: u64, b: u64) -> u64
     ensures { result ≡ max a b }
 {
-    if a < b { b } else { a }
+    a.max(b)
 }
 
 // n lies in the range least..most.
 pub fn within(least: u32, most: u32, n: u32) -> bool
     ensures { result ≡ within least most n }
 {
-    (least <= n) & (n <= most)
-}
-
-// A number of 32 bits as one of 64.
-pub fn wide(n: u32) -> u64
-    ensures { (result ≡ n) × (result ≤ 4_294_967_295) }
-{
-    n as u64
+    (least..=most).contains(&n)
 }

@@ -8,6 +8,7 @@ use Prim.Native.Nat.{ℕ, ◌≤◌}
 use native.Mathlib.Omega.{arith}
 use lib.Dec.{T}
 use lib.Ieee.Fits.{and_l, and_r}
+use Rattle.std.specs.Prelude.{Ok, Err}
 use Rattle.rules.specs.Rules.{Rule, all_kept, verdict, FirstBroken}
 use Rattle.rules.specs.PlantData.{plant_in_range}
 use Rattle.rules.specs.LabReadings.{result_in_range, heads_in_range, reading_no_number, reading_value, reading_in_range}
@@ -21,33 +22,32 @@ use Rattle.rules.specs.declared.Reading.{Reading}
 use Rattle.rules.specs.declared.Readings.{Readings}
 use Rattle.rules.specs.declared.Concentrations.{Concentrations}
 use Rattle.rules.specs.declared.Refusal.{Refusal}
-use Rattle.rules.specs.declared.Verdict.{Verdict}
-use Rattle.rules.specs.declared.Acceptance.{Acceptance}
+use Rattle.rules.specs.Results.{Verdict}
 use Rattle.rules.proofs.Tests.{within_between}
 use Rattle.rules.proofs.RangeFacts.{plant_ranges}
 use Rattle.rules.proofs.RuleLists.{all_kept_verdict, broken_verdict, kept_append}
 
 -- an acceptance is not a refusal
-pub refused_no : (n : Refusal) (x : Concentrations) → Acceptance.Refused n ≡ Acceptance.Accepted x → ⊥
+pub refused_no : (n : Refusal) (x : Concentrations) → Err n ≡ Ok x → ⊥
 refused_no n x e = let z : ◌≡◌ {A = ℕ} 0 1 = cc in omega arith
 
 -- what an acceptance tells of the verdict that it was made by
-by_verdict : (v : Verdict) (x y : Concentrations) → accept_by v x ≡ Acceptance.Accepted y → (v ≡ Verdict.Kept) × (x ≡ y)
+by_verdict : (v : Verdict) (x y : Concentrations) → accept_by v x ≡ Ok y → (v ≡ (Ok tt)) × (x ≡ y)
 unfolding accept_by
-by_verdict Verdict.Kept x y e = (refl, cc)
-by_verdict (Verdict.Broken n) x y e = absurd (refused_no n y e)
+by_verdict (Ok u) x y e = (refl, cc)
+by_verdict (Err n) x y e = absurd (refused_no n y e)
 
-by_broken : (v : Verdict) (x : Concentrations) (n : Refusal) → accept_by v x ≡ Acceptance.Refused n → v ≡ Verdict.Broken n
+by_broken : (v : Verdict) (x : Concentrations) (n : Refusal) → accept_by v x ≡ Err n → v ≡ Err n
 unfolding accept_by
-by_broken Verdict.Kept x n e = absurd (refused_no n x (sym e))
-by_broken (Verdict.Broken m) x n e = cc
+by_broken (Ok u) x n e = absurd (refused_no n x (sym e))
+by_broken (Err m) x n e = cc
 
 -- what any list of rules accepts breaks none of them, with the values that it was given ..
-pub accepted_kept : (l : List Rule) (x y : Concentrations) → accept_by (verdict l) x ≡ Acceptance.Accepted y → T (all_kept l) × (x ≡ y)
+pub accepted_kept : (l : List Rule) (x y : Concentrations) → accept_by (verdict l) x ≡ Ok y → T (all_kept l) × (x ≡ y)
 accepted_kept l x y e = let h = by_verdict (verdict l) x y e in ((all_kept_verdict l).1 h.0, h.1)
 
 -- .. and what it refuses with n has n as the first that is broken, and the other way round
-pub refused_broken : (l : List Rule) (x : Concentrations) (n : Refusal) → (accept_by (verdict l) x ≡ Acceptance.Refused n) ↔ FirstBroken l n
+pub refused_broken : (l : List Rule) (x : Concentrations) (n : Refusal) → (accept_by (verdict l) x ≡ Err n) ↔ FirstBroken l n
 unfolding accept_by
 refused_broken l x n = (
   λ e. (broken_verdict l n).1 (by_broken (verdict l) x n e),
@@ -55,17 +55,17 @@ refused_broken l x n = (
 )
 
 -- what is accepted breaks none of the data's rules, and the concentrations are the readings' values
-pub accepted_none_due : (p : Plant) (r : Readings) (x : Concentrations) → accept p r ≡ Acceptance.Accepted x → T (all_kept (data_rules p r)) × (values_of p r ≡ x)
+pub accepted_none_due : (p : Plant) (r : Readings) (x : Concentrations) → accept p r ≡ Ok x → T (all_kept (data_rules p r)) × (values_of p r ≡ x)
 unfolding accept
 accepted_none_due p r x e = accepted_kept (data_rules p r) (values_of p r) x e
 
 -- where none of them is broken, the data are accepted
-pub none_due_accepted : (p : Plant) (r : Readings) → T (all_kept (data_rules p r)) → accept p r ≡ Acceptance.Accepted (values_of p r)
+pub none_due_accepted : (p : Plant) (r : Readings) → T (all_kept (data_rules p r)) → accept p r ≡ Ok (values_of p r)
 unfolding accept accept_by
 none_due_accepted p r none = ap (λ (v : Verdict). accept_by v (values_of p r)) ((all_kept_verdict (data_rules p r)).0 none)
 
 -- acceptance refuses with n exactly when n is the first of them that is due
-pub data_refused_when_due : (p : Plant) (r : Readings) (n : Refusal) → (accept p r ≡ Acceptance.Refused n) ↔ FirstBroken (data_rules p r) n
+pub data_refused_when_due : (p : Plant) (r : Readings) (n : Refusal) → (accept p r ≡ Err n) ↔ FirstBroken (data_rules p r) n
 unfolding accept
 data_refused_when_due p r n = refused_broken (data_rules p r) (values_of p r) n
 
@@ -148,7 +148,7 @@ none_due_ranges p r t =
     from_cod : List Rule
     from_cod = of Parameter.Cod r.cod ++ from_solids
 
-pub accepted_ranges : (p : Plant) (r : Readings) (x : Concentrations) → accept p r ≡ Acceptance.Accepted x → PlantRanges p × ConcentrationRanges x
+pub accepted_ranges : (p : Plant) (r : Readings) (x : Concentrations) → accept p r ≡ Ok x → PlantRanges p × ConcentrationRanges x
 accepted_ranges p r x e =
     let h = accepted_none_due p r x e in
     rw h.1 at (none_due_ranges p r h.0)

@@ -7,6 +7,7 @@ use mathlib.Core.List.{List, [], ◌∷◌, ◌++◌}
 use Prim.Native.Nat.{◌≤◌, ◌<◌}
 use borrow.Author.Tests.{le-leb, lt-leb, leb-false}
 use lib.Dec.{T, leb}
+use Rattle.std.specs.Prelude.{Err}
 use Rattle.rules.specs.Limits.{most_index}
 use Rattle.rules.specs.Rules.{Rule, rule, verdict}
 use Rattle.rules.specs.PlantData.{plant_in_range}
@@ -19,8 +20,7 @@ use Rattle.rules.specs.Bulking.{data_rules_without_bulking, steps_without_bulkin
 use Rattle.rules.specs.declared.Plant.{Plant}
 use Rattle.rules.specs.declared.Readings.{Readings}
 use Rattle.rules.specs.declared.Refusal.{Refusal}
-use Rattle.rules.specs.declared.Verdict.{Verdict}
-use Rattle.rules.specs.declared.Acceptance.{Acceptance}
+use Rattle.rules.specs.Results.{Verdict}
 use Rattle.rules.proofs.RuleLists.{numbered, broken_verdict, first_broken_among}
 use Rattle.rules.proofs.AcceptedData.{data_refused_when_due}
 use Rattle.rules.proofs.OtherAnswers.{same_answers}
@@ -31,7 +31,7 @@ rest p r = readings_rules p r ++ (terms_rule p ∷ [])
 
 -- the verdict on the data, by the tests of 1 and 17
 abbrev first : Plant → Readings → Bool → Bool → Verdict
-first p r a b = cond a (cond b (verdict (rest p r)) (Verdict.Broken Refusal.Bulking)) (Verdict.Broken Refusal.PlantData)
+first p r a b = cond a (cond b (verdict (rest p r)) (Err Refusal.Bulking)) (Err Refusal.PlantData)
 
 by_tests :
     (p : Plant) (r : Readings) (a b : Bool)
@@ -52,7 +52,7 @@ up_to_most p h =
     let same = same_answers steps_without_bulking p (λ r. data_rules_lem p r h) (λ x y. refl) (λ x y. refl) in
     record { answers = same; explained = λ r y. ap (explain_accepted p y) (same.acceptance r); counted = λ r. ap (census_accepted p) (same.acceptance r) }
 
-due : (p : Plant) (r : Readings) → T (plant_in_range p) → most_index < p.sludge_volume_index → accept p r ≡ Acceptance.Refused Refusal.Bulking
+due : (p : Plant) (r : Readings) → T (plant_in_range p) → most_index < p.sludge_volume_index → accept p r ≡ Err Refusal.Bulking
 unfolding accept accept_by
 due p r t h =
     ap (λ (v : Verdict). accept_by v (values_of p r))
@@ -75,21 +75,21 @@ bulking_refused p t h =
     }
 
 -- 17 is due exactly there: the readings and the consent are not looked at.
-pub bulking_due : (p : Plant) (r : Readings) → (accept p r ≡ Acceptance.Refused Refusal.Bulking) ↔ (T (plant_in_range p) × (most_index < p.sludge_volume_index))
+pub bulking_due : (p : Plant) (r : Readings) → (accept p r ≡ Err Refusal.Bulking) ↔ (T (plant_in_range p) × (most_index < p.sludge_volume_index))
 bulking_due p r = (λ e. go (plant_in_range p) (leb p.sludge_volume_index most_index) refl refl (broken e), λ h. due p r h.0 h.1)
   where
-    broken : accept p r ≡ Acceptance.Refused Refusal.Bulking → verdict (data_rules p r) ≡ Verdict.Broken Refusal.Bulking
+    broken : accept p r ≡ Err Refusal.Bulking → verdict (data_rules p r) ≡ Err Refusal.Bulking
     broken e = (broken_verdict (data_rules p r) Refusal.Bulking).0 ((data_refused_when_due p r Refusal.Bulking).0 e)
 
     -- 17 is not among the rules of such a list
-    not_among : (l : List Rule) → (T (numbered 17 l) → ⊥) → verdict l ≡ Verdict.Broken Refusal.Bulking → ⊥
+    not_among : (l : List Rule) → (T (numbered 17 l) → ⊥) → verdict l ≡ Err Refusal.Bulking → ⊥
     not_among l none v = none (first_broken_among l Refusal.Bulking ((broken_verdict l Refusal.Bulking).1 v))
 
     go :
         (a b : Bool)
         → plant_in_range p ≡ a
         → leb p.sludge_volume_index most_index ≡ b
-        → verdict (data_rules p r) ≡ Verdict.Broken Refusal.Bulking
+        → verdict (data_rules p r) ≡ Err Refusal.Bulking
         → T (plant_in_range p) × (most_index < p.sludge_volume_index)
     go true false d e v = (subst T (sym d) tt, leb-false _ _ e)
     go true true d e v = absurd (not_among (rest p r) (λ t. t) (sym (by_tests p r true true d e) ∙ v))

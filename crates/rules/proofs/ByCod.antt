@@ -13,7 +13,7 @@ use Rattle.rules.specs.declared.Plant.{Plant}
 use Rattle.rules.specs.declared.Way.{Way}
 use Rattle.rules.specs.declared.Readings.{Readings}
 use Rattle.rules.specs.declared.Refusal.{Refusal}
-use Rattle.rules.specs.declared.Verdict.{Verdict}
+use Rattle.rules.specs.Results.{Verdict}
 use Rattle.rules.proofs.RuleLists.{numbered, broken_verdict, first_broken_among}
 use Rattle.rules.proofs.AcceptedData.{data_refused_when_due}
 

@@ -9,6 +9,7 @@ use native.Mathlib.Nat.{eq-or-lt_of_le}
 use native.Mathlib.Omega.{arith}
 use borrow.Author.Tests.{eq-eqb, ne_eqb}
 use lib.Dec.{T, eqb, leb}
+use Rattle.std.specs.Prelude.{Ok, Err}
 use Rattle.rules.specs.Sums.{sum_from}
 use Rattle.rules.specs.Rules.{rule, verdict, after}
 use Rattle.rules.specs.AgeNitrate.{on_grid, covered}
@@ -17,7 +18,7 @@ use Rattle.rules.specs.SettlingSteps.{settling_of, solids_kept}
 use Rattle.rules.specs.Consent.{terms_of, every}
 use Rattle.rules.specs.TermSteps.{nitrifies, term_covered}
 use Rattle.rules.specs.Examining.{sheet_of, fraction_rules, tank_rules, candidate_rules, answer_by, judge}
-use Rattle.rules.specs.Answers.{answer_number, verdict_number}
+use Rattle.rules.specs.Answers.{answer_number}
 use Rattle.rules.specs.Census.{sum_over_grid, grid_size, one, counted, answer_numbers}
 use Rattle.rules.specs.declared.Plant.{Plant}
 use Rattle.rules.specs.declared.TankFlow.{TankFlow}
@@ -25,7 +26,7 @@ use Rattle.rules.specs.declared.Concentrations.{Concentrations}
 use Rattle.rules.specs.declared.Candidate.{Candidate}
 use Rattle.rules.specs.declared.Sheet.{Sheet}
 use Rattle.rules.specs.declared.Refusal.{Refusal}
-use Rattle.rules.specs.declared.Verdict.{Verdict}
+use Rattle.rules.specs.Results.{Verdict}
 use Rattle.rules.proofs.RuleLists.{verdict_append}
 use Rattle.rules.proofs.RuleOrder.{verdict_number_below}
 use Rattle.rules.proofs.GridSums.{grid_same, grid_plus, grid_swap, grid_ones}
@@ -69,10 +70,10 @@ one_of n (suc m) h = go (eq-or-lt_of_le below) (λ less. one_of n m less)
 
 -- ---- what the verdicts say of an answer's number
 
-answer_verdict_lem : (v : Verdict) (s : Sheet) → answer_number (answer_by v s) ≡ verdict_number v
-unfolding answer_number answer_by verdict_number
-answer_verdict_lem Verdict.Kept s = refl
-answer_verdict_lem (Verdict.Broken n) s = refl
+answer_verdict_lem : (v : Verdict) (s : Sheet) → answer_number (answer_by v s) ≡ answer_number v
+unfolding answer_number answer_by
+answer_verdict_lem (Ok u) s = refl
+answer_verdict_lem (Err n) s = refl
 
 -- the fraction's verdict, the tank's verdict
 abbrev pub fraction_verdict : Plant → Concentrations → ℕ → Verdict
@@ -90,12 +91,12 @@ pub judged_number :
     (p : Plant) (x : Concentrations) (y : Candidate)
     → T (on_grid p.tank y)
     → answer_number (judge p x y)
-    ≡ verdict_number (after (fraction_verdict p x y.fraction) (tank_verdict p y.return_ratio y.thickening))
+    ≡ answer_number (after (fraction_verdict p x y.fraction) (tank_verdict p y.return_ratio y.thickening))
 unfolding judge candidate_rules
 judged_number p x y on =
     answer_verdict_lem (verdict (candidate_rules p x y)) (sheet_of p x y)
-    ∙ ap verdict_number
-    (on_grid_first (on_grid p.tank y) _ (Verdict.Broken Refusal.OffGrid) on
+    ∙ ap answer_number
+    (on_grid_first (on_grid p.tank y) _ (Err Refusal.OffGrid) on
     ∙ verdict_append (fraction_rules p x (reactor_of p x y.fraction)) (tank_rules p (settling_of p y.return_ratio y.thickening)))
 
 -- ---- the counts add up
@@ -116,7 +117,7 @@ all_counted p x =
 rule_numbers :
     (a b c d e f : Bool) (n : ℕ)
     → n
-    ≡ verdict_number
+    ≡ answer_number
     (verdict
     (rule Refusal.Nitrate a
     ∷ rule Refusal.Nitrification b
@@ -126,7 +127,7 @@ rule_numbers :
     ∷ rule Refusal.Depth f
     ∷ []))
     → one n 0 + one n 7 + one n 15 + one n 16 + one n 8 + one n 9 + one n 10 ≡ 1
-unfolding verdict_number
+unfolding answer_number
 rule_numbers false b c d e f n q = rw q
 rule_numbers true false c d e f n q = rw q
 rule_numbers true true false d e f n q = rw q
@@ -164,7 +165,7 @@ rules_counted p x =
     (leb t.surface p.site_surface)
     (leb t.depth p.site_depth)
     (answer_number (judge p x y))
-    (judged_number p x y on ∙ ap verdict_number (sym (verdict_append (fraction_rules p x f) (tank_rules p t)))))
+    (judged_number p x y on ∙ ap answer_number (sym (verdict_append (fraction_rules p x f) (tank_rules p t)))))
     ∙ grid_ones tank)
   where
     tank : TankFlow

@@ -5,6 +5,7 @@ use mathlib.Core.Path.{◌≡◌, sym, ap, ◌∙◌}
 use Prim.Native.Nat.{ℕ}
 use native.Mathlib.Nat.{le_antisymm}
 use native.Mathlib.Omega.{arith}
+use Rattle.std.specs.Prelude.{Ok, Err}
 use Rattle.rules.specs.Accepting.{accept}
 use Rattle.rules.specs.Examining.{sheet_of}
 use Rattle.rules.specs.Choosing.{Candidates, candidate_of, candidate_total, NotBeforeBy, Least, ChosenAmong, ChosenAccepted, Chosen, grid}
@@ -13,8 +14,8 @@ use Rattle.rules.specs.declared.Readings.{Readings}
 use Rattle.rules.specs.declared.Concentrations.{Concentrations}
 use Rattle.rules.specs.declared.Candidate.{Candidate}
 use Rattle.rules.specs.declared.Sheet.{Sheet}
-use Rattle.rules.specs.declared.Acceptance.{Acceptance}
-use Rattle.rules.specs.declared.Answer.{Answer}
+use Rattle.rules.specs.Results.{Acceptance}
+use Rattle.rules.specs.Results.{Answer}
 
 -- a candidate is its three figures
 same_candidate : (d y : Candidate) → d.fraction ≡ y.fraction → d.return_ratio ≡ y.return_ratio → d.thickening ≡ y.thickening → d ≡ y
@@ -51,15 +52,15 @@ least_once p x among s t a b =
 -- two answers chosen among the same candidates are one
 pub chosen_among_once :
     (p : Plant) (x : Concentrations) (among : Candidates) (a b : Answer) → ChosenAmong p x among a → ChosenAmong p x among b → a ≡ b
-chosen_among_once p x among (Answer.Designed s) (Answer.Designed t) a b = ap Answer.Designed (least_once p x among s t a b)
-chosen_among_once p x among (Answer.Designed s) (Answer.Refused n) a b = absurd (b.1 (candidate_of s) a.member a.allowed)
-chosen_among_once p x among (Answer.Refused n) (Answer.Designed t) a b = absurd (a.1 (candidate_of t) b.member b.allowed)
-chosen_among_once p x among (Answer.Refused n) (Answer.Refused m) a b = ap Answer.Refused (a.0 ∙ sym b.0)
+chosen_among_once p x among (Ok s) (Ok t) a b = ap Ok (least_once p x among s t a b)
+chosen_among_once p x among (Ok s) (Err n) a b = absurd (b.1 (candidate_of s) a.member a.allowed)
+chosen_among_once p x among (Err n) (Ok t) a b = absurd (a.1 (candidate_of t) b.member b.allowed)
+chosen_among_once p x among (Err n) (Err m) a b = ap Err (a.0 ∙ sym b.0)
 
 -- two answers that keep demand 3 for the same plant data and readings are one
 pub chosen_once : (p : Plant) (r : Readings) (a b : Answer) → Chosen p r a → Chosen p r b → a ≡ b
 chosen_once p r a b = go (accept p r)
   where
     go : (o : Acceptance) → ChosenAccepted p a o → ChosenAccepted p b o → a ≡ b
-    go (Acceptance.Refused n) e f = e ∙ sym f
-    go (Acceptance.Accepted x) e f = chosen_among_once p x (grid p) a b e f
+    go (Err n) e f = e ∙ sym f
+    go (Ok x) e f = chosen_among_once p x (grid p) a b e f

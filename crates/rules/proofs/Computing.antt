@@ -32,6 +32,7 @@ unfolding
     of_bits
     Bytes.word
     Bytes.low_bytes
+    Bytes.chunked
     figures_without_dose
     plant_figures
     plant_in_range
@@ -171,14 +172,10 @@ unfolding
     Answers.empty_sheet
     Answers.answer_number
     Answers.answer_sheet
-    Answers.acceptance_number
-    Answers.verdict_number
     Answers.sheet_figures
     Explanations.term_figures
     Explanations.explained_figures
-    Answers.target_number
-    Answers.target_value
-    Explanations.explanation_number
+    Answers.value_or_zero
     Explanations.explanation_figures
     Listing.text
     Listing.digits
@@ -204,7 +201,6 @@ unfolding
     DayLog.log_rules
     DayLog.load_by
     DayLog.two_week_load
-    DayLog.load_number
     DayLog.load_of
     Cases.variant
     Cases.hopper_plant

@@ -12,19 +12,19 @@ use lib.Dec.{T, eqb}
 use lib.Ieee.{Float}
 use lib.Ieee.Fits.{and_i, and_l, and_r}
 use lib.ListN.{length}
+use Rattle.std.specs.Prelude.{Result, Ok, Err}
 use Rattle.rules.specs.PlantData.{within}
 use Rattle.rules.specs.LabReadings.{no_number, thousandths, reading_no_number, reading_value}
 use Rattle.rules.specs.Rules.{all_kept, verdict, FirstBroken}
-use Rattle.rules.specs.Answers.{refusal_number}
-use Rattle.rules.specs.DayLog.{day_count, day_of, log_whole, day_kept, days_kept, window_load, highest_of, windows, log_rules, load_by, two_week_load, load_number, load_of}
+use Rattle.rules.specs.Answers.{refusal_number, answer_number}
+use Rattle.rules.specs.DayLog.{day_count, day_of, log_whole, day_kept, days_kept, window_load, highest_of, windows, log_rules, load_by, two_week_load, load_of}
 use Rattle.rules.specs.DayLogOutcome.{Whole, BrokenDay, LoadOutcome}
 use Rattle.rules.specs.declared.PrimarySettling.{PrimarySettling}
 use Rattle.rules.specs.declared.Parameter.{Parameter}
 use Rattle.rules.specs.declared.Reading.{Reading}
 use Rattle.rules.specs.declared.Refusal.{Refusal}
-use Rattle.rules.specs.declared.Verdict.{Verdict}
+use Rattle.rules.specs.Results.{Verdict}
 use Rattle.rules.specs.declared.TwoWeekLoad.{TwoWeekLoad}
-use Rattle.rules.specs.declared.LoadAnswer.{LoadAnswer}
 use Rattle.rules.proofs.Tests.{within_between}
 use Rattle.rules.proofs.RuleLists.{kept_not_broken, all_kept_verdict, broken_verdict}
 use Rattle.rules.proofs.HighestLoad.{highest, highest_once}
@@ -138,16 +138,16 @@ due_13 log = (forth, λ h. inr ((log_whole_lem log).1 h.0, inl ((days_broken log
     forth (inr (t, inr f)) = absurd f.1
 
 -- the answer is a refusal exactly when it is due
-pub load_refused_when_due : (log : List ℕ) (n : Refusal) → (two_week_load log ≡ LoadAnswer.Refused n) ↔ FirstBroken (log_rules log) n
+pub load_refused_when_due : (log : List ℕ) (n : Refusal) → (two_week_load log ≡ Err n) ↔ FirstBroken (log_rules log) n
 unfolding two_week_load load_by
 load_refused_when_due log n = (
   λ e. (broken_verdict (log_rules log) n).1 (forth (verdict (log_rules log)) e),
   λ f. ap (λ (v : Verdict). load_by v (highest_of (window_load log) (windows log))) ((broken_verdict (log_rules log) n).0 f),
 )
   where
-    forth : (v : Verdict) → load_by v (highest_of (window_load log) (windows log)) ≡ LoadAnswer.Refused n → v ≡ Verdict.Broken n
-    forth Verdict.Kept e = absurd (let z : ◌≡◌ {A = ℕ} 0 1 = cc in omega arith)
-    forth (Verdict.Broken m) e = let same : m ≡ n = cc in ap Verdict.Broken same
+    forth : (v : Verdict) → load_by v (highest_of (window_load log) (windows log)) ≡ Err n → v ≡ Err n
+    forth (Ok u) e = absurd (let z : ◌≡◌ {A = ℕ} 0 1 = cc in omega arith)
+    forth (Err m) e = let same : m ≡ n = cc in ap Err same
 
 -- a log keeps the rules or breaks one of them first, and not both
 not_both : (log : List ℕ) → T (all_kept (log_rules log)) → (n : Refusal) → FirstBroken (log_rules log) n → ⊥
@@ -155,7 +155,7 @@ not_both log t n f = kept_not_broken n (sym ((broken_verdict (log_rules log) n).
 
 due_once : (log : List ℕ) (n m : Refusal) → FirstBroken (log_rules log) n → FirstBroken (log_rules log) m → n ≡ m
 due_once log n m f g =
-    let same : Verdict.Broken n ≡ Verdict.Broken m = sym ((broken_verdict (log_rules log) n).0 f) ∙ (broken_verdict (log_rules log) m).0 g in
+    let same : Err n ≡ Err m = sym ((broken_verdict (log_rules log) n).0 f) ∙ (broken_verdict (log_rules log) m).0 g in
     cc
 
 -- ---- what an answer carries
@@ -168,17 +168,17 @@ kept_whole log t = (log_whole_lem log).0 (and_l (log_whole log) (days_kept log (
 count_least : (log : List ℕ) → T (all_kept (log_rules log)) → 14 ≤ day_count log
 count_least log t = (kept_whole log t).count.least
 
-pub load_outcome : (log : List ℕ) (a : LoadAnswer) → a ≡ two_week_load log → LoadOutcome log (load_number a) (load_of a)
-unfolding two_week_load load_by load_number load_of
+pub load_outcome : (log : List ℕ) (a : Result TwoWeekLoad Refusal) → a ≡ two_week_load log → LoadOutcome log (answer_number a) (load_of a)
+unfolding two_week_load load_by answer_number load_of
 load_outcome log a e = rw e (go (verdict (log_rules log)) refl)
   where
     go :
         (v : Verdict) → verdict (log_rules log) ≡ v
-        → LoadOutcome log (load_number (load_by v (highest_of (window_load log) (windows log)))) (load_of (load_by v (highest_of (window_load log) (windows log))))
-    go Verdict.Kept k =
+        → LoadOutcome log (answer_number (load_by v (highest_of (window_load log) (windows log)))) (load_of (load_by v (highest_of (window_load log) (windows log))))
+    go (Ok u) k =
         let kept = (all_kept_verdict (log_rules log)).1 k in
         inl (record { numbered = refl; kept = kept; highest = highest log (count_least log kept) })
-    go (Verdict.Broken n) k =
+    go (Err n) k =
         inr (record { refusal = n; is_due = (broken_verdict (log_rules log) n).1 k; numbered = refl; zeros = (refl, (refl, tt)) })
 
 -- the promise determines the number and the load

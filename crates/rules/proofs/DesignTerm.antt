@@ -9,6 +9,7 @@ use native.Mathlib.Omega.{arith}
 use borrow.Author.Tests.{le-leb}
 use lib.Dec.{T}
 use lib.Ieee.Fits.{and_i}
+use Rattle.std.specs.Prelude.{Ok, Err}
 use Rattle.rules.specs.Limits.{least_term_temperature, most_temperature, least_nitrate_target, most_nitrate_target, most_terms}
 use Rattle.rules.specs.Rules.{Rule, rule, verdict}
 use Rattle.rules.specs.PlantData.{within, plant_figures, figures_without_dose, plant_in_range}
@@ -32,9 +33,9 @@ use Rattle.rules.specs.declared.Concentrations.{Concentrations}
 use Rattle.rules.specs.declared.Candidate.{Candidate}
 use Rattle.rules.specs.declared.Reactor.{Reactor}
 use Rattle.rules.specs.declared.Refusal.{Refusal}
-use Rattle.rules.specs.declared.Verdict.{Verdict}
-use Rattle.rules.specs.declared.Acceptance.{Acceptance}
-use Rattle.rules.specs.declared.Answer.{Answer}
+use Rattle.rules.specs.Results.{Verdict}
+use Rattle.rules.specs.Results.{Acceptance}
+use Rattle.rules.specs.Results.{Answer}
 use Rattle.rules.proofs.Tests.{within_between, all_between}
 use Rattle.rules.proofs.RangeFacts.{grid_ranges}
 use Rattle.rules.proofs.EveryTerm.{every_inserted}
@@ -147,15 +148,15 @@ module _ (p : Plant) (more fewer : Consent) (h : OneMore p more fewer) where
   chosen r a = (λ c. forth a (accept (with_consent fewer p) r) ((same.choice r a).0 c), λ c. (same.choice r a).1 (back a (accept (with_consent fewer p) r) c))
     where
       forth : (b : Answer) (o : Acceptance) → ChosenAcceptedWith under_fewer (with_consent more p) b o → ChosenAccepted (with_consent fewer p) b o
-      forth b (Acceptance.Refused n) e = e
-      forth (Answer.Refused n) (Acceptance.Accepted x) e = e
-      forth (Answer.Designed s) (Acceptance.Accepted x) e =
+      forth b (Err n) e = e
+      forth (Err n) (Ok x) e = e
+      forth (Ok s) (Ok x) e =
           record { member = e.member; allowed = e.allowed; figures = e.figures; rivals = λ y g t. (not_before x (candidate_of s) y).0 (e.rivals y g t) }
 
       back : (b : Answer) (o : Acceptance) → ChosenAccepted (with_consent fewer p) b o → ChosenAcceptedWith under_fewer (with_consent more p) b o
-      back b (Acceptance.Refused n) e = e
-      back (Answer.Refused n) (Acceptance.Accepted x) e = e
-      back (Answer.Designed s) (Acceptance.Accepted x) e =
+      back b (Err n) e = e
+      back (Err n) (Ok x) e = e
+      back (Ok s) (Ok x) e =
           record { member = e.member; allowed = e.allowed; figures = e.figures; rivals = λ y g t. (not_before x (candidate_of s) y).1 (e.rivals y g t) }
 
   examined : (r : Readings) (y : Candidate) → examine (with_consent more p) r y ≡ examine (with_consent fewer p) r y

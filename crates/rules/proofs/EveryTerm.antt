@@ -1,17 +1,16 @@
 -- Tests of every term of a consent: what they say of each term, and how a weaker test passes where a stronger one did.
 -- Assumes nothing.
-use mathlib.Core.Path.{◌≡◌, refl, ap, subst}
-use mathlib.Core.Bool.{Bool, true, false, ◌&&◌, ◌||◌, and-true}
+use mathlib.Core.Path.{◌≡◌, ap}
+use mathlib.Core.Bool.{Bool, true, ◌&&◌}
 use mathlib.Core.List.{List, [], ◌∷◌, ◌++◌}
-use Prim.Native.Nat.{ℕ, zero, suc, ◌<◌}
+use Prim.Native.Nat.{ℕ, zero, suc, ◌<◌, ◌≤◌}
 use native.Mathlib.Omega.{arith}
-use borrow.Author.Tests.{lt-leb}
-use lib.Dec.{T, leb}
-use lib.ListN.{take}
+use lib.Dec.{T, leb, leb→le}
+use lib.ListN.{take, length, get_or}
 use lib.Ieee.Fits.{and_i, and_l, and_r}
 use Rattle.rules.specs.Limits.{least_term_temperature, most_temperature, least_nitrate_target, most_nitrate_target, most_terms}
 use Rattle.rules.specs.PlantData.{within}
-use Rattle.rules.specs.Consent.{date_valid, term_valid, terms_of, every, consent_valid}
+use Rattle.rules.specs.Consent.{date_valid, term_valid, no_term, terms_of, every, consent_valid}
 use Rattle.rules.specs.Ranges.{Between, TermTemperature}
 use Rattle.rules.specs.declared.Term.{Term}
 use Rattle.rules.specs.declared.Consent.{Consent}
@@ -27,28 +26,13 @@ pub every_inserted : (f : Term → Bool) (a : List Term) (term : Term) (b : List
 every_inserted f [] term b e = rw e
 every_inserted f (t ∷ a) term b e = ap (λ (r : Bool). f t && r) (every_inserted f a term b e)
 
--- entry i of a consent with so many terms passes, or is not looked at
-abbrev pub entry_passes : ℕ → ℕ → Bool → Bool
-entry_passes count i test = leb count i || test
-
--- a test of every term is a test of the four entries
-pub every_entry :
-    (f : Term → Bool) (count : ℕ) (a b c d : Term)
-    → every f (take count (a ∷ b ∷ c ∷ d ∷ []))
-    ≡ (entry_passes count 0 (f a) && (entry_passes count 1 (f b) && (entry_passes count 2 (f c) && entry_passes count 3 (f d))))
-every_entry f zero a b c d = refl
-every_entry f (suc zero) a b c d = refl
-every_entry f (suc (suc zero)) a b c d = refl
-every_entry f (suc (suc (suc zero))) a b c d = refl
-every_entry f (suc (suc (suc (suc n)))) a b c d =
-    rw (within n 0 (omega arith), within n 1 (omega arith), within n 2 (omega arith), within n 3 (omega arith), none_left n, and-true (f d))
-  where
-    within : (n i : ℕ) → i < suc (suc (suc (suc n))) → leb (suc (suc (suc (suc n)))) i ≡ false
-    within n i l = lt-leb (suc (suc (suc (suc n)))) i l
-
-    none_left : (n : ℕ) → every f (take n []) ≡ true
-    none_left zero = refl
-    none_left (suc n) = refl
+-- a test that every term of a list passes is passed by each of its first n
+pub every_at : (f : Term → Bool) (l : List Term) (n i : ℕ) → T (every f (take n l)) → i < n → i < length l → T (f (get_or l i no_term))
+every_at f [] n i t below within = absurd (omega (arith, within))
+every_at f (term ∷ later) zero i t below within = absurd (omega (arith, below))
+every_at f (term ∷ later) (suc n) zero t below within = and_l (f term) (every f (take n later)) t
+every_at f (term ∷ later) (suc n) (suc i) t below within =
+    every_at f later n i (and_r (f term) (every f (take n later)) t) (omega (arith, below)) (omega (arith, within))
 
 -- what is known of a valid term
 pub record TermRanges (term : Term) : Type 0 where
@@ -66,29 +50,15 @@ term_ranges term t =
       target = (within_between least_nitrate_target most_nitrate_target term.nitrate_target).0 (and_r (days && warm) target t);
     }
 
--- an entry that passes, and is looked at, passes its test
-passes_test : (count i : ℕ) (b : Bool) → T (entry_passes count i b) → i < count → T b
-passes_test count i b t l = subst (λ (q : Bool). T (q || b)) (lt-leb count i l) t
+-- the terms of a valid consent are at most four, and each that is looked at is valid
+pub record ValidTerms (c : Consent) : Type 0 where
+  pub most : c.count ≤ most_terms
+  pub each : (i : ℕ) → i < c.count → i < length c.terms → T (term_valid (get_or c.terms i no_term))
 
--- the entries of a valid consent that are looked at are valid
-pub record ValidEntries (c : Consent) : Type 0 where
-  pub first : 0 < c.count → T (term_valid c.first)
-  pub second : 1 < c.count → T (term_valid c.second)
-  pub third : 2 < c.count → T (term_valid c.third)
-  pub fourth : 3 < c.count → T (term_valid c.fourth)
-
-pub valid_entries : (c : Consent) → T (consent_valid c) → ValidEntries c
+pub valid_terms : (c : Consent) → T (consent_valid c) → ValidTerms c
 unfolding consent_valid
-valid_entries c t =
-    let all = subst T (every_entry term_valid c.count c.first c.second c.third c.fourth) (and_r (leb c.count most_terms) (every term_valid (terms_of c)) t) in
-    let later = and_r (at 0 c.first) (at 1 c.second && (at 2 c.third && at 3 c.fourth)) all in
-    let last = and_r (at 1 c.second) (at 2 c.third && at 3 c.fourth) later in
+valid_terms c t =
     record {
-      first = passes_test c.count 0 (term_valid c.first) (and_l (at 0 c.first) _ all);
-      second = passes_test c.count 1 (term_valid c.second) (and_l (at 1 c.second) _ later);
-      third = passes_test c.count 2 (term_valid c.third) (and_l (at 2 c.third) (at 3 c.fourth) last);
-      fourth = passes_test c.count 3 (term_valid c.fourth) (and_r (at 2 c.third) (at 3 c.fourth) last);
+      most = leb→le c.count most_terms (and_l (leb c.count most_terms) (every term_valid (terms_of c)) t);
+      each = λ i below within. every_at term_valid c.terms c.count i (and_r (leb c.count most_terms) (every term_valid (terms_of c)) t) below within;
     }
-  where
-    at : ℕ → Term → Bool
-    at i term = entry_passes c.count i (term_valid term)

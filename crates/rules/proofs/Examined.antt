@@ -8,6 +8,7 @@ use Prim.Native.Nat.{ℕ}
 use native.Mathlib.Omega.{arith}
 use lib.Dec.{T}
 use lib.Ieee.Fits.{and_i, and_l, and_r}
+use Rattle.std.specs.Prelude.{Ok, Err}
 use Rattle.rules.specs.Rules.{Rule, all_kept, verdict, after, FirstBroken}
 use Rattle.rules.specs.Accepting.{values_of, data_rules, accept_by, accept}
 use Rattle.rules.specs.AgeNitrate.{on_grid}
@@ -20,33 +21,32 @@ use Rattle.rules.specs.declared.Concentrations.{Concentrations}
 use Rattle.rules.specs.declared.Candidate.{Candidate}
 use Rattle.rules.specs.declared.Sheet.{Sheet}
 use Rattle.rules.specs.declared.Refusal.{Refusal}
-use Rattle.rules.specs.declared.Verdict.{Verdict}
-use Rattle.rules.specs.declared.Answer.{Answer}
+use Rattle.rules.specs.Results.{Verdict}
 use Rattle.rules.proofs.RuleLists.{all_kept_verdict, broken_verdict, kept_append, verdict_append}
 
 -- ---- a verdict's answer
 
-refused_no_sheet : (n : Refusal) (s : Sheet) → Answer.Refused n ≡ Answer.Designed s → ⊥
+refused_no_sheet : (n : Refusal) (s : Sheet) → Err n ≡ Ok s → ⊥
 refused_no_sheet n s e = let z : ◌≡◌ {A = ℕ} 0 1 = cc in omega arith
 
-designed_by : (v : Verdict) (s t : Sheet) → (answer_by v s ≡ Answer.Designed t) ↔ ((v ≡ Verdict.Kept) × (s ≡ t))
+designed_by : (v : Verdict) (s t : Sheet) → (answer_by v s ≡ Ok t) ↔ ((v ≡ (Ok tt)) × (s ≡ t))
 unfolding answer_by
-designed_by Verdict.Kept s t = (λ e. (refl, cc), λ h. ap Answer.Designed h.1)
-designed_by (Verdict.Broken n) s t = (λ e. absurd (refused_no_sheet n t e), λ h. absurd (let z : ◌≡◌ {A = ℕ} 0 1 = cc h.0 in omega arith))
+designed_by (Ok u) s t = (λ e. (refl, cc), λ h. ap Ok h.1)
+designed_by (Err n) s t = (λ e. absurd (refused_no_sheet n t e), λ h. absurd (let z : ◌≡◌ {A = ℕ} 0 1 = cc h.0 in omega arith))
 
-refused_by : (v : Verdict) (s : Sheet) (n : Refusal) → (answer_by v s ≡ Answer.Refused n) ↔ (v ≡ Verdict.Broken n)
+refused_by : (v : Verdict) (s : Sheet) (n : Refusal) → (answer_by v s ≡ Err n) ↔ (v ≡ Err n)
 unfolding answer_by
-refused_by Verdict.Kept s n = (λ e. absurd (refused_no_sheet n s (sym e)), λ h. absurd (let z : ◌≡◌ {A = ℕ} 0 1 = cc in omega arith))
-refused_by (Verdict.Broken m) s n = (λ e. cc, λ h. cc)
+refused_by (Ok u) s n = (λ e. absurd (refused_no_sheet n s (sym e)), λ h. absurd (let z : ◌≡◌ {A = ℕ} 0 1 = cc in omega arith))
+refused_by (Err m) s n = (λ e. cc, λ h. cc)
 
 -- the answer that rules in order give to a sheet: it is the sheet exactly when all are kept, n exactly when n is the first broken
-sheet_by_rules : (l : List Rule) (s t : Sheet) → (answer_by (verdict l) s ≡ Answer.Designed t) ↔ (T (all_kept l) × (s ≡ t))
+sheet_by_rules : (l : List Rule) (s t : Sheet) → (answer_by (verdict l) s ≡ Ok t) ↔ (T (all_kept l) × (s ≡ t))
 sheet_by_rules l s t = (
   λ e. let h = (designed_by (verdict l) s t).0 e in ((all_kept_verdict l).1 h.0, h.1),
   λ h. (designed_by (verdict l) s t).1 ((all_kept_verdict l).0 h.0, h.1),
 )
 
-refusal_by_rules : (l : List Rule) (s : Sheet) (n : Refusal) → (answer_by (verdict l) s ≡ Answer.Refused n) ↔ FirstBroken l n
+refusal_by_rules : (l : List Rule) (s : Sheet) (n : Refusal) → (answer_by (verdict l) s ≡ Err n) ↔ FirstBroken l n
 refusal_by_rules l s n = (
   λ e. (broken_verdict l n).1 ((refused_by (verdict l) s n).0 e),
   λ f. (refused_by (verdict l) s n).1 ((broken_verdict l n).0 f),
@@ -60,17 +60,17 @@ unfolding examine judge_accepted judge accept accept_by examination_rules answer
 examine_by_rules p r y = go (verdict (data_rules p r)) ∙ ap (λ (v : Verdict). answer_by v (sheet_of p (values_of p r) y)) (sym (verdict_append (data_rules p r) (candidate_rules p (values_of p r) y)))
   where
     go : (v : Verdict) → judge_accepted p y (accept_by v (values_of p r)) ≡ answer_by (after v (verdict (candidate_rules p (values_of p r) y))) (sheet_of p (values_of p r) y)
-    go Verdict.Kept = refl
-    go (Verdict.Broken n) = refl
+    go (Ok u) = refl
+    go (Err n) = refl
 
 -- a candidate is refused with n exactly when n is the first rule broken, of its data or of its own
-pub refused_when_due : (p : Plant) (r : Readings) (y : Candidate) (n : Refusal) → (examine p r y ≡ Answer.Refused n) ↔ FirstBroken (examination_rules p r y) n
+pub refused_when_due : (p : Plant) (r : Readings) (y : Candidate) (n : Refusal) → (examine p r y ≡ Err n) ↔ FirstBroken (examination_rules p r y) n
 refused_when_due p r y n =
     let law = refusal_by_rules (examination_rules p r y) (sheet_of p (values_of p r) y) n in
     (λ e. law.0 (sym (examine_by_rules p r y) ∙ e), λ f. examine_by_rules p r y ∙ law.1 f)
 
 -- it gets a sheet exactly when no rule is broken, and it is the steps' sheet
-pub sheet_when_kept : (p : Plant) (r : Readings) (y : Candidate) (s : Sheet) → (examine p r y ≡ Answer.Designed s) ↔ (T (all_kept (examination_rules p r y)) × (sheet_of p (values_of p r) y ≡ s))
+pub sheet_when_kept : (p : Plant) (r : Readings) (y : Candidate) (s : Sheet) → (examine p r y ≡ Ok s) ↔ (T (all_kept (examination_rules p r y)) × (sheet_of p (values_of p r) y ≡ s))
 sheet_when_kept p r y s =
     let law = sheet_by_rules (examination_rules p r y) (sheet_of p (values_of p r) y) s in
     (λ e. law.0 (sym (examine_by_rules p r y) ∙ e), λ h. examine_by_rules p r y ∙ law.1 h)
@@ -82,16 +82,16 @@ kept_when_permitted p r y = kept_append (data_rules p r) (candidate_rules p (val
 
 -- ---- candidates of accepted data
 
-pub judge_sheet : (p : Plant) (x : Concentrations) (y : Candidate) (s : Sheet) → (judge p x y ≡ Answer.Designed s) ↔ (T (permitted p x y) × (sheet_of p x y ≡ s))
+pub judge_sheet : (p : Plant) (x : Concentrations) (y : Candidate) (s : Sheet) → (judge p x y ≡ Ok s) ↔ (T (permitted p x y) × (sheet_of p x y ≡ s))
 unfolding judge permitted
 judge_sheet p x y s = sheet_by_rules (candidate_rules p x y) (sheet_of p x y) s
 
-pub judge_refusal : (p : Plant) (x : Concentrations) (y : Candidate) (n : Refusal) → (judge p x y ≡ Answer.Refused n) ↔ FirstBroken (candidate_rules p x y) n
+pub judge_refusal : (p : Plant) (x : Concentrations) (y : Candidate) (n : Refusal) → (judge p x y ≡ Err n) ↔ FirstBroken (candidate_rules p x y) n
 unfolding judge
 judge_refusal p x y n = refusal_by_rules (candidate_rules p x y) (sheet_of p x y) n
 
 -- a permitted candidate of accepted data gets its sheet
-pub judge_permitted : (p : Plant) (x : Concentrations) (y : Candidate) → T (permitted p x y) → judge p x y ≡ Answer.Designed (sheet_of p x y)
+pub judge_permitted : (p : Plant) (x : Concentrations) (y : Candidate) → T (permitted p x y) → judge p x y ≡ Ok (sheet_of p x y)
 judge_permitted p x y t = (judge_sheet p x y (sheet_of p x y)).1 (t, refl)
 
 -- the fraction's rules are kept; the tank's rules are kept

@@ -10,10 +10,11 @@ use native.Mathlib.Nat.{le_antisymm}
 use borrow.Author.Tests.{leb-true, leb-false}
 use lib.Dec.{T, leb, leb→le, le→leb}
 use lib.Ieee.Fits.{and_i, and_l, and_r}
+use Rattle.std.specs.Prelude.{Result, Ok, Err, Option, Some, None}
 use Rattle.rules.specs.Limits.{least_index, most_index}
 use Rattle.rules.specs.Rules.{Rule}
 use Rattle.rules.specs.Accepting.{values_of}
-use Rattle.rules.specs.Answers.{built_number, built_index}
+use Rattle.rules.specs.Answers.{answer_number, value_or_zero}
 use Rattle.rules.specs.ReactorSteps.{reactor_of, reactor_dosed, reactor_by, sludge_production}
 use Rattle.rules.specs.TermSteps.{nitrifies, term_covered, term_share, term_removes, term_fraction}
 use Rattle.rules.specs.Examining.{sheet_of, fraction_rules, permitted}
@@ -26,10 +27,10 @@ use Rattle.rules.specs.declared.Concentrations.{Concentrations}
 use Rattle.rules.specs.declared.Reactor.{Reactor}
 use Rattle.rules.specs.declared.Existing.{Existing}
 use Rattle.rules.specs.declared.IndexSpan.{IndexSpan}
-use Rattle.rules.specs.declared.Acceptance.{Acceptance}
-use Rattle.rules.specs.declared.BuiltAnswer.{BuiltAnswer}
+use Rattle.rules.specs.Results.{Acceptance}
 use Rattle.rules.proofs.RuleOrder.{refusal_number_between}
 use Rattle.rules.proofs.AcceptedData.{accepted_kept, refused_broken}
+use Rattle.rules.specs.declared.Refusal.{Refusal}
 
 -- the reactor is the same at every index ..
 pub reactor_at_index : (index : ℕ) (p : Plant) (x : Concentrations) (f : ℕ) → reactor_of (with_index index p) x f ≡ reactor_of p x f
@@ -75,44 +76,44 @@ lost_once p x e span i j a b = le_antisymm (no_later i j a b) (no_later j i b a)
 
 -- two answers for the same data, tanks and span are the same
 pub built_once :
-    (p : Plant) (r : Readings) (e : Existing) (span : IndexSpan) (a b : BuiltAnswer)
+    (p : Plant) (r : Readings) (e : Existing) (span : IndexSpan) (a b : Result (Option ℕ) Refusal)
     → BuiltAnswered p r e span a
     → BuiltAnswered p r e span b
     → a ≡ b
 built_once p r e span a b g h = go (accept_built p r e span) a b g h
   where
-    go : (o : Acceptance) (a b : BuiltAnswer) → BuiltAccepted p e span a o → BuiltAccepted p e span b o → a ≡ b
-    go (Acceptance.Refused n) a b g h = g ∙ sym h
-    go (Acceptance.Accepted x) BuiltAnswer.Held BuiltAnswer.Held g h = refl
-    go (Acceptance.Accepted x) BuiltAnswer.Held (BuiltAnswer.Lost j) g h = absurd (h.lost (g j h.member))
-    go (Acceptance.Accepted x) BuiltAnswer.Held (BuiltAnswer.Refused n) g h = absurd h
-    go (Acceptance.Accepted x) (BuiltAnswer.Lost i) BuiltAnswer.Held g h = absurd (g.lost (h i g.member))
-    go (Acceptance.Accepted x) (BuiltAnswer.Lost i) (BuiltAnswer.Lost j) g h = ap BuiltAnswer.Lost (lost_once p x e span i j g h)
-    go (Acceptance.Accepted x) (BuiltAnswer.Lost i) (BuiltAnswer.Refused n) g h = absurd h
-    go (Acceptance.Accepted x) (BuiltAnswer.Refused n) b g h = absurd g
+    go : (o : Acceptance) (a b : Result (Option ℕ) Refusal) → BuiltAccepted p e span a o → BuiltAccepted p e span b o → a ≡ b
+    go (Err n) a b g h = g ∙ sym h
+    go (Ok x) (Ok None) (Ok None) g h = refl
+    go (Ok x) (Ok None) (Ok (Some j)) g h = absurd (h.lost (g j h.member))
+    go (Ok x) (Ok None) (Err n) g h = absurd h
+    go (Ok x) (Ok (Some i)) (Ok None) g h = absurd (g.lost (h i g.member))
+    go (Ok x) (Ok (Some i)) (Ok (Some j)) g h = ap (λ (k : ℕ). Ok (Some k)) (lost_once p x e span i j g h)
+    go (Ok x) (Ok (Some i)) (Err n) g h = absurd h
+    go (Ok x) (Err n) b g h = absurd g
 
 -- the call's number and index are what is promised of them
 pub built_outcome :
-    (p : Plant) (r : Readings) (e : Existing) (span : IndexSpan) (a : BuiltAnswer)
+    (p : Plant) (r : Readings) (e : Existing) (span : IndexSpan) (a : Result (Option ℕ) Refusal)
     → BuiltAnswered p r e span a
-    → BuiltOutcome p r e span (built_number a) (built_index a)
-unfolding built_number built_index accept_built
+    → BuiltOutcome p r e span (answer_number a) (value_or_zero a)
+unfolding answer_number value_or_zero accept_built
 built_outcome p r e span a h = go (accept_built p r e span) refl a h
   where
     rules : List Rule
     rules = built_rules p r e span
 
-    go : (o : Acceptance) → accept_built p r e span ≡ o → (a : BuiltAnswer) → BuiltAccepted p e span a o → BuiltOutcome p r e span (built_number a) (built_index a)
-    go (Acceptance.Refused n) q a g =
-        subst (λ (b : BuiltAnswer). BuiltOutcome p r e span (built_number b) (built_index b)) (sym g)
+    go : (o : Acceptance) → accept_built p r e span ≡ o → (a : Result (Option ℕ) Refusal) → BuiltAccepted p e span a o → BuiltOutcome p r e span (answer_number a) (value_or_zero a)
+    go (Err n) q a g =
+        subst (λ (b : Result (Option ℕ) Refusal). BuiltOutcome p r e span (answer_number b) (value_or_zero b)) (sym g)
         (inr (inr (record { refusal = n; is_due = (refused_broken rules (values_of p r) n).0 q; numbered = refl; zeros = (refl, tt) })))
-    go (Acceptance.Accepted x) q BuiltAnswer.Held g =
+    go (Ok x) q (Ok None) g =
         let given = accepted_kept rules (values_of p r) x q in
         inl (record { kept = given.0; numbered = refl; zero = refl; holds = subst (λ (y : Concentrations). HoldsAtEach p y e span) (sym given.1) g })
-    go (Acceptance.Accepted x) q (BuiltAnswer.Lost i) g =
+    go (Ok x) q (Ok (Some i)) g =
         let given = accepted_kept rules (values_of p r) x q in
         inr (inl (record { kept = given.0; numbered = refl; smallest = subst (λ (y : Concentrations). SmallestLost p y e span i) (sym given.1) g }))
-    go (Acceptance.Accepted x) q (BuiltAnswer.Refused n) g = absurd g
+    go (Ok x) q (Err n) g = absurd g
 
 -- Where no refusal is due, the index given back is 0 exactly where each index of the span can be won.
 pub zero_when_held :

@@ -6,6 +6,7 @@ use native.Mathlib.Omega.{arith}
 use lib.Dec.{T, leb→le, le→leb}
 use lib.Ieee.Fits.{and_i, and_l, and_r}
 use lib.ListN.{take}
+use Rattle.std.specs.Prelude.{Ok, Err}
 use Rattle.rules.specs.Rounding.{down}
 use Rattle.rules.specs.Limits.{most_dose}
 use Rattle.rules.specs.Rules.{all_kept}
@@ -29,8 +30,8 @@ use Rattle.rules.specs.declared.Way.{Way}
 use Rattle.rules.specs.declared.Reactor.{Reactor}
 use Rattle.rules.specs.declared.Term.{Term}
 use Rattle.rules.specs.declared.Sheet.{Sheet}
-use Rattle.rules.specs.declared.Acceptance.{Acceptance}
-use Rattle.rules.specs.declared.Answer.{Answer}
+use Rattle.rules.specs.Results.{Acceptance}
+use Rattle.rules.specs.Results.{Answer}
 use Rattle.rules.proofs.Tests.{within_between}
 use Rattle.rules.proofs.AcceptedData.{accepted_none_due, none_due_accepted}
 use Rattle.rules.proofs.Examined.{permitted_keeps}
@@ -120,7 +121,7 @@ module _ (p : Plant) (x : Concentrations) (y : Candidate) (n : ℕ) (bod : p.way
   unfolding with_carbon corrected with_dose candidate_total total_of reactor_of reactor_dosed reactor_by sludge_production settling_of
   same_total = ap (λ (carbon : ℕ). total_of p (with_carbon carbon) (settling_of p y.return_ratio y.thickening)) own
 
-accepted_with : (p : Plant) (r : Readings) (x : Concentrations) (m n : ℕ) → n ≤ most_dose → accept (with_dose m p) r ≡ Acceptance.Accepted x → accept (with_dose n p) r ≡ Acceptance.Accepted x
+accepted_with : (p : Plant) (r : Readings) (x : Concentrations) (m n : ℕ) → n ≤ most_dose → accept (with_dose m p) r ≡ Ok x → accept (with_dose n p) r ≡ Ok x
 unfolding with_dose data_rules figures_without_dose values_of
 accepted_with p r x m n h e =
     let given = accepted_none_due (with_dose m p) r x e in
@@ -130,7 +131,7 @@ accepted_with p r x m n h e =
     let dosed = subst T (sym (in_range_with_dose (with_dose n p))) (and_i (all_within (figures_without_dose p)) (within 0 most_dose n) figures ((within_between 0 most_dose n).1 (record { least = omega arith; most = h }))) in
     none_due_accepted (with_dose n p) r
     (and_i (plant_in_range (with_dose n p)) later dosed (and_r (plant_in_range (with_dose m p)) later given.0))
-    ∙ ap Acceptance.Accepted given.1
+    ∙ ap Ok given.1
 
 -- By BOD, where there is a design with a dose, there is one with every larger dose up to the largest, and no larger.
 pub larger_dose_choice :
@@ -138,15 +139,15 @@ pub larger_dose_choice :
     → p.way ≡ Way.Bod
     → m ≤ n
     → n ≤ most_dose
-    → Chosen (with_dose m p) r (Answer.Designed s)
+    → Chosen (with_dose m p) r (Ok s)
     → Chosen (with_dose n p) r a
     → DesignAtMost s.total a
 larger_dose_choice p r m n s a bod h k c d = go (accept (with_dose m p) r) refl c
   where
     go :
-        (o : Acceptance) → accept (with_dose m p) r ≡ o → ChosenAccepted (with_dose m p) (Answer.Designed s) o → DesignAtMost s.total a
-    go (Acceptance.Refused i) q e = absurd (let z : ◌≡◌ {A = ℕ} 0 1 = cc in omega arith)
-    go (Acceptance.Accepted x) q l =
+        (o : Acceptance) → accept (with_dose m p) r ≡ o → ChosenAccepted (with_dose m p) (Ok s) o → DesignAtMost s.total a
+    go (Err i) q e = absurd (let z : ◌≡◌ {A = ℕ} 0 1 = cc in omega arith)
+    go (Ok x) q l =
         wider_choice (with_dose m p) (with_dose n p) x s a
         (record {
           permits = λ y t. larger_dose p x y m n h t;

@@ -10,6 +10,7 @@ use native.Mathlib.Omega.{arith}
 use borrow.Author.Tests.{eqb-true}
 use lib.Dec.{T, leb, eqb, leb→le, le→leb}
 use lib.Ieee.Fits.{and_i, and_l, and_r}
+use Rattle.std.specs.Prelude.{Ok}
 use Rattle.rules.specs.Rounding.{down}
 use Rattle.rules.specs.Sums.{sum_from}
 use Rattle.rules.specs.Limits.{most_lines}
@@ -22,8 +23,7 @@ use Rattle.rules.specs.declared.Plant.{Plant}
 use Rattle.rules.specs.declared.Readings.{Readings}
 use Rattle.rules.specs.declared.Concentrations.{Concentrations}
 use Rattle.rules.specs.declared.Split.{Split}
-use Rattle.rules.specs.declared.Acceptance.{Acceptance}
-use Rattle.rules.specs.declared.Answer.{Answer}
+use Rattle.rules.specs.Results.{Answer}
 use Rattle.rules.proofs.SumLaws.{sum_step, sum_grown, sum_same, sum_constant}
 use Rattle.rules.proofs.Tests.{within_between, all_between, between_all}
 use Rattle.rules.proofs.AcceptedData.{accepted_ranges}
@@ -200,7 +200,7 @@ line_in_range p split i valid below t =
 -- answer.
 pub line_as_plant :
     (line : Plant) (r : Readings) (x : Concentrations) (a : Answer)
-    → accept line r ≡ Acceptance.Accepted x
+    → accept line r ≡ Ok x
     → LineChosen line x a ↔ Chosen line r a
 line_as_plant line r x a e =
     let ranges = (accepted_ranges line r x e).0 in

@@ -8,6 +8,7 @@ use Prim.Native.Nat.{ℕ, ◌+◌, ◌-◌, ◌<◌}
 use native.Mathlib.Omega.{arith}
 use lib.Dec.{T}
 use lib.Ieee.Fits.{and_l, and_r}
+use Rattle.std.specs.Prelude.{Ok, Err, Result}
 use Rattle.rules.specs.PlantData.{within}
 use Rattle.rules.specs.Rules.{rule, verdict, all_kept}
 use Rattle.rules.specs.Accepting.{values_of, data_rules, accept_by}
@@ -15,7 +16,7 @@ use Rattle.rules.specs.Answers.{answer_number, answer_sheet}
 use Rattle.rules.specs.Ranges.{Between, ConcentrationRanges}
 use Rattle.rules.specs.TwoColumns.{Removes}
 use Rattle.rules.specs.Lines.{split_valid, line_of, LineChosen, line_rules, accept_line, LineAccepted, LineAnswered}
-use Rattle.rules.specs.Works.{works_rules, accept_works, first_refused, refused_works, works_by, WorksAccepted, WorksChosen}
+use Rattle.rules.specs.Works.{works_rules, accept_works, first_refused, works_sheets, works_by, WorksAccepted, WorksChosen}
 use Rattle.rules.specs.WorksOutcome.{LineDesigned, sheet_at, LineOutcome, LineColumns}
 use Rattle.rules.specs.declared.Plant.{Plant}
 use Rattle.rules.specs.declared.Readings.{Readings}
@@ -23,9 +24,9 @@ use Rattle.rules.specs.declared.Concentrations.{Concentrations}
 use Rattle.rules.specs.declared.Split.{Split}
 use Rattle.rules.specs.declared.Works.{Works}
 use Rattle.rules.specs.declared.Refusal.{Refusal}
-use Rattle.rules.specs.declared.Verdict.{Verdict}
-use Rattle.rules.specs.declared.Acceptance.{Acceptance}
-use Rattle.rules.specs.declared.Answer.{Answer}
+use Rattle.rules.specs.Results.{Verdict}
+use Rattle.rules.specs.Results.{Acceptance}
+use Rattle.rules.specs.Results.{Answer}
 use Rattle.rules.proofs.AcceptedData.{accepted_kept, refused_broken, none_due_ranges}
 use Rattle.rules.proofs.OutcomeLaws.{empty_zeros}
 use Rattle.rules.proofs.Tests.{within_between}
@@ -36,7 +37,7 @@ use Rattle.rules.proofs.WorksLaws.{all_designed}
 -- what is accepted for a line
 pub line_accepted :
     (p : Plant) (r : Readings) (split : Split) (number : ℕ) (x : Concentrations)
-    → accept_line p r split number ≡ Acceptance.Accepted x
+    → accept_line p r split number ≡ Ok x
     → WorksRanges p x split × T (within 1 split.count number)
 unfolding accept_line line_rules
 line_accepted p r split number x e =
@@ -59,29 +60,29 @@ line_outcome p r split number a h = go (accept_line p r split number) refl a h
     line = line_of p split (number - 1)
 
     go : (o : Acceptance) → accept_line p r split number ≡ o → (a : Answer) → LineAccepted line a o → LineOutcome p r split number (answer_number a) (answer_sheet a)
-    go (Acceptance.Refused n) q (Answer.Designed s) e = absurd (let z : ◌≡◌ {A = ℕ} 0 1 = cc in omega arith)
-    go (Acceptance.Refused n) q (Answer.Refused m) e =
+    go (Err n) q (Ok s) e = absurd (let z : ◌≡◌ {A = ℕ} 0 1 = cc in omega arith)
+    go (Err n) q (Err m) e =
         let same : n ≡ m = cc in
-        inr (record { refusal = m; is_due = inl ((refused_broken (line_rules p r split number) (values_of p r) m).0 (q ∙ ap Acceptance.Refused same)); numbered = refl; zeros = empty_zeros })
-    go (Acceptance.Accepted x) q (Answer.Designed s) c =
+        inr (record { refusal = m; is_due = inl ((refused_broken (line_rules p r split number) (values_of p r) m).0 (q ∙ ap Err same)); numbered = refl; zeros = empty_zeros })
+    go (Ok x) q (Ok s) c =
         let given = accepted_kept (line_rules p r split number) (values_of p r) x q in
         inl (record { numbered = refl; kept = given.0; designed = subst (λ (y : Concentrations). LineDesigned line y s) (sym given.1) (designed_line line x s c) })
-    go (Acceptance.Accepted x) q (Answer.Refused m) c =
+    go (Ok x) q (Err m) c =
         let given = accepted_kept (line_rules p r split number) (values_of p r) x q in
-        inr (record { refusal = m; is_due = inr (given.0, subst (λ (y : Concentrations). LineChosen line y (Answer.Refused m)) (sym given.1) c); numbered = refl; zeros = empty_zeros })
+        inr (record { refusal = m; is_due = inr (given.0, subst (λ (y : Concentrations). LineChosen line y (Err m)) (sym given.1) c); numbered = refl; zeros = empty_zeros })
 
 -- The two columns of a line's own sheet.
 pub line_with_columns : (p : Plant) (r : Readings) (split : Split) (number : ℕ) (a : Answer) → LineAnswered p r split number a → LineColumns p r split number a
 unfolding accept_line
-line_with_columns p r split number (Answer.Refused n) h = tt
-line_with_columns p r split number (Answer.Designed s) h = go (accept_line p r split number) refl h
+line_with_columns p r split number (Err n) h = tt
+line_with_columns p r split number (Ok s) h = go (accept_line p r split number) refl h
   where
     line : Plant
     line = line_of p split (number - 1)
 
-    go : (o : Acceptance) → accept_line p r split number ≡ o → LineAccepted line (Answer.Designed s) o → Removes line (values_of p r) s.fraction
-    go (Acceptance.Refused n) q e = absurd (let z : ◌≡◌ {A = ℕ} 0 1 = cc in omega arith)
-    go (Acceptance.Accepted x) q c =
+    go : (o : Acceptance) → accept_line p r split number ≡ o → LineAccepted line (Ok s) o → Removes line (values_of p r) s.fraction
+    go (Err n) q e = absurd (let z : ◌≡◌ {A = ℕ} 0 1 = cc in omega arith)
+    go (Ok x) q c =
         let given = accepted_kept (line_rules p r split number) (values_of p r) x q in
         subst (λ (y : Concentrations). Removes line y s.fraction) (sym given.1) (line_columns line x s (designed_line line x s c))
 
@@ -98,13 +99,12 @@ accept_same p r split number e =
 -- In a works that has its sheets, the sheet of a line is that line's own answer.
 pub line_of_works :
     (p : Plant) (r : Readings) (split : Split) (w : Works) (i : ℕ) (a : Answer)
-    → WorksChosen p r split w
-    → w.verdict ≡ Verdict.Kept
+    → WorksChosen p r split (Ok w)
     → i < split.count
     → LineAnswered p r split (i + 1) a
-    → a ≡ Answer.Designed (sheet_at w i)
-unfolding refused_works works_by
-line_of_works p r split w i a h kept below asked = go (accept_works p r split) refl h (subst (LineAccepted (line_of p split i) a) same (rw here at asked))
+    → a ≡ Ok (sheet_at w i)
+unfolding works_sheets works_by
+line_of_works p r split w i a h below asked = go (accept_works p r split) refl h (subst (LineAccepted (line_of p split i) a) same (rw here at asked))
   where
     here : i + 1 - 1 ≡ i
     here = omega arith
@@ -119,16 +119,16 @@ line_of_works p r split w i a h kept below asked = go (accept_works p r split) r
             holds true t = refl
             holds false t = absurd t
 
-    no_refusal : (n : Refusal) → w ≡ refused_works n → ⊥
-    no_refusal n e = let z : ◌≡◌ {A = ℕ} 0 1 = cc (ap (λ (v : Works). v.verdict) e) in omega arith
+    no_refusal : (n : Refusal) → ◌≡◌ {A = Result Works Refusal} (Ok w) (Err n) → ⊥
+    no_refusal n e = let z : ◌≡◌ {A = ℕ} 0 1 = cc in omega arith
 
-    go : (o : Acceptance) → accept_works p r split ≡ o → WorksAccepted p split w o → LineAccepted (line_of p split i) a o → a ≡ Answer.Designed (sheet_at w i)
-    go (Acceptance.Refused n) q e c = absurd (no_refusal n e)
-    go (Acceptance.Accepted x) q h c = lines (first_refused h.answers split.count) refl
+    go : (o : Acceptance) → accept_works p r split ≡ o → WorksAccepted p split (Ok w) o → LineAccepted (line_of p split i) a o → a ≡ Ok (sheet_at w i)
+    go (Err n) q e c = absurd (no_refusal n e)
+    go (Ok x) q h c = lines (first_refused h.answers split.count) refl
       where
-        lines : (v : Verdict) → first_refused h.answers split.count ≡ v → a ≡ Answer.Designed (sheet_at w i)
-        lines Verdict.Kept e =
+        lines : (v : Verdict) → first_refused h.answers split.count ≡ v → a ≡ Ok (sheet_at w i)
+        lines (Ok u) e =
             line_once (line_of p split i) x a (h.answers i) c (h.each i below)
             ∙ (designed_answer (h.answers i) (all_designed h.answers split.count e i below)
-            ∙ ap Answer.Designed (sym (sheet_of_line p r split w x q h e i below)))
-        lines (Verdict.Broken k) e = absurd (no_refusal k (by_verdict p r split w x q h (Verdict.Broken k) e))
+            ∙ ap Ok (sym (sheet_of_line p r split (Ok w) x q h e i below)))
+        lines (Err k) e = absurd (no_refusal k (by_verdict p r split (Ok w) x q h (Err k) e))

@@ -8,6 +8,7 @@ use lib.Dec.{T, leb→le, le→leb}
 use mathlib.Core.Bool.{Bool, true, ◌&&◌}
 use mathlib.Core.List.{List, [], ◌∷◌}
 use lib.Ieee.Fits.{and_i, and_l, and_r}
+use Rattle.std.specs.Prelude.{Ok, Err}
 use Rattle.rules.specs.Rounding.{down}
 use Rattle.rules.specs.Accepting.{accept}
 use Rattle.rules.specs.AgeNitrate.{removed_by_bod, removable, covered}
@@ -22,10 +23,10 @@ use Rattle.rules.specs.declared.Readings.{Readings}
 use Rattle.rules.specs.declared.Concentrations.{Concentrations}
 use Rattle.rules.specs.declared.Candidate.{Candidate}
 use Rattle.rules.specs.declared.Sheet.{Sheet}
-use Rattle.rules.specs.declared.Acceptance.{Acceptance}
+use Rattle.rules.specs.Results.{Acceptance}
 use Rattle.rules.specs.declared.Reactor.{Reactor}
 use Rattle.rules.specs.declared.Term.{Term}
-use Rattle.rules.specs.declared.Answer.{Answer}
+use Rattle.rules.specs.Results.{Answer}
 use Rattle.rules.proofs.Quotients.{le_down}
 use Rattle.rules.proofs.AcceptedData.{accepted_none_due}
 use Rattle.rules.proofs.Examined.{FractionKept, permitted_keeps, sheet_when_kept, kept_when_permitted}
@@ -105,8 +106,8 @@ two_columns p x y t =
 -- the candidate's.
 pub examined_columns : (p : Plant) (r : Readings) (y : Candidate) (a : Answer) → a ≡ examine p r y → TwoColumns p r a
 unfolding sheet_of sheet_from
-examined_columns p r y (Answer.Refused n) e = tt
-examined_columns p r y (Answer.Designed s) e =
+examined_columns p r y (Err n) e = tt
+examined_columns p r y (Ok s) e =
     let sheet = (sheet_when_kept p r y s).0 (sym e) in
     let kept = (kept_when_permitted p r y).0 sheet.0 in
     let own : y.fraction ≡ s.fraction = ap (λ (t : Sheet). t.fraction) sheet.1 in
@@ -115,12 +116,12 @@ examined_columns p r y (Answer.Designed s) e =
 -- The same of every sheet that is chosen.
 pub chosen_columns : (p : Plant) (r : Readings) (a : Answer) → Chosen p r a → TwoColumns p r a
 unfolding candidate_of
-chosen_columns p r (Answer.Refused n) h = tt
-chosen_columns p r (Answer.Designed s) h = go (accept p r) refl h
+chosen_columns p r (Err n) h = tt
+chosen_columns p r (Ok s) h = go (accept p r) refl h
   where
-    go : (o : Acceptance) → accept p r ≡ o → ChosenAccepted p (Answer.Designed s) o → TwoColumns p r (Answer.Designed s)
-    go (Acceptance.Refused n) q e = absurd (let z : ◌≡◌ {A = ℕ} 0 1 = cc in omega arith)
-    go (Acceptance.Accepted x) q l =
+    go : (o : Acceptance) → accept p r ≡ o → ChosenAccepted p (Ok s) o → TwoColumns p r (Ok s)
+    go (Err n) q e = absurd (let z : ◌≡◌ {A = ℕ} 0 1 = cc in omega arith)
+    go (Ok x) q l =
         let given = accepted_none_due p r x q in
         (given.0, subst (λ (v : Concentrations). Removes p v s.fraction) (sym given.1) (two_columns p x (candidate_of s) l.allowed))
 

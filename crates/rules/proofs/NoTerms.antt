@@ -2,7 +2,7 @@
 -- Assumes nothing.
 use mathlib.Core.Path.{◌≡◌, refl, ap, ◌∙◌}
 use mathlib.Core.Bool.{Bool, true, ◌&&◌}
-use mathlib.Core.List.{[], ◌∷◌}
+use mathlib.Core.List.{◌∷◌}
 use Prim.Native.Nat.{ℕ}
 use lib.Dec.{leb}
 use lib.ListN.{take}
@@ -30,7 +30,7 @@ use Rattle.rules.proofs.OtherAnswers.{same_answers}
 
 -- no term fails a test
 pub none_fails : (test : Term → Bool) (c : Consent) → c.count ≡ 0 → every test (terms_of c) ≡ true
-none_fails test c e = ap (λ (n : ℕ). every test (take n (c.first ∷ c.second ∷ c.third ∷ c.fourth ∷ []))) e
+none_fails test c e = ap (λ (n : ℕ). every test (take n c.terms)) e
 
 pub no_terms_valid : (c : Consent) → c.count ≡ 0 → consent_valid c ≡ true
 unfolding consent_valid

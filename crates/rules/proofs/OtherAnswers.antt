@@ -5,6 +5,7 @@ use mathlib.Core.Path.{◌≡◌, refl, ap, sym, subst, ◌∙◌}
 use mathlib.Core.Bool.{Bool, true, false}
 use mathlib.Core.List.{List, ◌++◌}
 use lib.Dec.{T}
+use Rattle.std.specs.Prelude.{Ok, Err}
 use Rattle.rules.specs.Rules.{Rule, all_kept, verdict, after}
 use Rattle.rules.specs.Accepting.{values_of, data_rules, accept_by, accept}
 use Rattle.rules.specs.Examining.{sheet_from, sheet_of, candidate_rules, permitted, answer_by, examine, examination_rules}
@@ -15,9 +16,9 @@ use Rattle.rules.specs.declared.Readings.{Readings}
 use Rattle.rules.specs.declared.Concentrations.{Concentrations}
 use Rattle.rules.specs.declared.Candidate.{Candidate}
 use Rattle.rules.specs.declared.Sheet.{Sheet}
-use Rattle.rules.specs.declared.Verdict.{Verdict}
-use Rattle.rules.specs.declared.Acceptance.{Acceptance}
-use Rattle.rules.specs.declared.Answer.{Answer}
+use Rattle.rules.specs.Results.{Verdict}
+use Rattle.rules.specs.Results.{Acceptance}
+use Rattle.rules.specs.Results.{Answer}
 use Rattle.rules.proofs.RuleLists.{all_kept_verdict, verdict_append}
 use Rattle.rules.proofs.Examined.{examine_by_rules}
 use Rattle.rules.proofs.ChosenOnce.{neither_before, same_order}
@@ -74,9 +75,9 @@ module _
       back x y t = subst T (sym (same_permitted x y)) t
 
       go : (b : Answer) (o : Acceptance) → ChosenAccepted p b o ↔ ChosenAcceptedWith s p b o
-      go b (Acceptance.Refused n) = (λ h. h, λ h. h)
-      go (Answer.Refused n) (Acceptance.Accepted x) = (λ h. (h.0, λ y g t. h.1 y g (back x y t)), λ h. (h.0, λ y g t. h.1 y g (forth x y t)))
-      go (Answer.Designed d) (Acceptance.Accepted x) = (
+      go b (Err n) = (λ h. h, λ h. h)
+      go (Err n) (Ok x) = (λ h. (h.0, λ y g t. h.1 y g (back x y t)), λ h. (h.0, λ y g t. h.1 y g (forth x y t)))
+      go (Ok d) (Ok x) = (
         λ h.
             record {
               member = h.member;
@@ -102,11 +103,11 @@ pub chosen_with_once : (s : Calculation) (p : Plant) (r : Readings) (a b : Answe
 chosen_with_once s p r a b = go a b (accept_with s p r)
   where
     go : (a b : Answer) (o : Acceptance) → ChosenAcceptedWith s p a o → ChosenAcceptedWith s p b o → a ≡ b
-    go a b (Acceptance.Refused n) e f = e ∙ sym f
-    go (Answer.Designed d) (Answer.Designed t) (Acceptance.Accepted x) e f =
+    go a b (Err n) e f = e ∙ sym f
+    go (Ok d) (Ok t) (Ok x) e f =
         let one : candidate_of d ≡ candidate_of t =
         neither_before (total_with s p x) (candidate_of d) (candidate_of t) (e.rivals (candidate_of t) f.member f.allowed) (f.rivals (candidate_of d) e.member e.allowed) in
-        ap Answer.Designed (e.figures ∙ (ap (s.sheet p x) one ∙ sym f.figures))
-    go (Answer.Designed d) (Answer.Refused n) (Acceptance.Accepted x) e f = absurd (f.1 (candidate_of d) e.member e.allowed)
-    go (Answer.Refused n) (Answer.Designed t) (Acceptance.Accepted x) e f = absurd (e.1 (candidate_of t) f.member f.allowed)
-    go (Answer.Refused n) (Answer.Refused m) (Acceptance.Accepted x) e f = ap Answer.Refused (e.0 ∙ sym f.0)
+        ap Ok (e.figures ∙ (ap (s.sheet p x) one ∙ sym f.figures))
+    go (Ok d) (Err n) (Ok x) e f = absurd (f.1 (candidate_of d) e.member e.allowed)
+    go (Err n) (Ok t) (Ok x) e f = absurd (e.1 (candidate_of t) f.member f.allowed)
+    go (Err n) (Err m) (Ok x) e f = ap Err (e.0 ∙ sym f.0)

@@ -3,6 +3,7 @@ use mathlib.Core.Path.{◌≡◌, refl, ap, ◌∙◌}
 use mathlib.Core.Bool.{false}
 use Prim.Native.Nat.{ℕ}
 use native.Mathlib.Omega.{arith}
+use Rattle.std.specs.Prelude.{Ok, Err}
 use Rattle.rules.specs.Rules.{verdict}
 use Rattle.rules.specs.Accepting.{accept, values_of}
 use Rattle.rules.specs.ReactorSteps.{reactor_of}
@@ -17,9 +18,9 @@ use Rattle.rules.specs.declared.Process.{Process}
 use Rattle.rules.specs.declared.Concentrations.{Concentrations}
 use Rattle.rules.specs.declared.Candidate.{Candidate}
 use Rattle.rules.specs.declared.Sheet.{Sheet}
-use Rattle.rules.specs.declared.Verdict.{Verdict}
-use Rattle.rules.specs.declared.Acceptance.{Acceptance}
-use Rattle.rules.specs.declared.Answer.{Answer}
+use Rattle.rules.specs.Results.{Verdict}
+use Rattle.rules.specs.Results.{Acceptance}
+use Rattle.rules.specs.Results.{Answer}
 use Rattle.rules.proofs.Examined.{examine_by_rules}
 use Rattle.rules.proofs.ChosenOnce.{same_order}
 use Rattle.rules.proofs.OtherAnswers.{same_answers, chosen_with_once}
@@ -51,15 +52,15 @@ other_process p e = same_answers steps_without_pauses p (λ r. refl) (λ x y. re
 
 unpaused_by : (p : Plant) (v : Verdict) (s : Sheet) → unpaused p (answer_by v s) ≡ answer_by v (unpaused_sheet p s)
 unfolding unpaused answer_by
-unpaused_by p Verdict.Kept s = refl
-unpaused_by p (Verdict.Broken n) s = refl
+unpaused_by p (Ok u) s = refl
+unpaused_by p (Err n) s = refl
 
 -- demand 3 over the steps without pauses, from demand 3
 chosen_before : (p : Plant) (a : Answer) (o : Acceptance) → ChosenAccepted p a o → ChosenAcceptedWith steps_without_pauses p (unpaused p a) o
 unfolding steps_without_pauses unpaused unpaused_sheet candidate_of permitted candidate_total sheet_without_pauses sheet_from
-chosen_before p a (Acceptance.Refused n) e = ap (unpaused p) e
-chosen_before p (Answer.Refused n) (Acceptance.Accepted x) h = h
-chosen_before p (Answer.Designed s) (Acceptance.Accepted x) h =
+chosen_before p a (Err n) e = ap (unpaused p) e
+chosen_before p (Err n) (Ok x) h = h
+chosen_before p (Ok s) (Ok x) h =
     record { member = h.member; allowed = h.allowed; figures = ap (unpaused_sheet p) h.figures ∙ same_sheet p x (candidate_of s); rivals = λ y g t. same_order (candidate_total p x) (total_with steps_without_pauses p x) (λ z. refl) (candidate_of s) y (h.rivals y g t) }
 
 -- For all data: but for the transfer every answer and the choice are as before.

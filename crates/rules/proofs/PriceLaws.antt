@@ -9,6 +9,7 @@ use native.Mathlib.Omega.{arith}
 use borrow.Author.Tests.{leb-true, leb-false, lt-leb, le-leb}
 use lib.Dec.{T, leb, leb→le}
 use lib.Ieee.Fits.{and_l, and_r}
+use Rattle.std.specs.Prelude.{Result, Ok, Err}
 use Rattle.rules.specs.Rounding.{up}
 use Rattle.rules.specs.Sums.{sum_from}
 use Rattle.rules.specs.Limits.{most_bands, most_price, most_surcharge}
@@ -16,7 +17,7 @@ use Rattle.rules.specs.PlantData.{within}
 use Rattle.rules.specs.Examining.{examine}
 use Rattle.rules.specs.Outcomes.{ChosenOutcome}
 use Rattle.rules.specs.TwoColumns.{TwoColumns}
-use Rattle.rules.specs.Answers.{answer_number, answer_sheet, price_number, price_sheet, price_value}
+use Rattle.rules.specs.Answers.{answer_number, answer_sheet, price_sheet, price_value}
 use Rattle.rules.specs.Price.{band_limit, band_price, charged_from, metre_price, volume_price, tanks_price, price_of, limits_rise, prices_kept, tariff_valid, priced_sheet, priced, examine_priced, ChosenPriced}
 use Rattle.rules.specs.PriceOutcome.{PricedExamined, PricedChosen, FirstBand, PriceColumns}
 use Rattle.rules.specs.declared.Plant.{Plant}
@@ -25,8 +26,7 @@ use Rattle.rules.specs.declared.Candidate.{Candidate}
 use Rattle.rules.specs.declared.Sheet.{Sheet}
 use Rattle.rules.specs.declared.Tariff.{Tariff}
 use Rattle.rules.specs.declared.Refusal.{Refusal}
-use Rattle.rules.specs.declared.Answer.{Answer}
-use Rattle.rules.specs.declared.PriceAnswer.{PriceAnswer}
+use Rattle.rules.specs.Results.{Answer}
 use Rattle.rules.proofs.Quotients.{up_mono}
 use Rattle.rules.proofs.Tests.{within_between}
 use Rattle.rules.proofs.RuleOrder.{refusal_number_between}
@@ -34,6 +34,7 @@ use Rattle.rules.proofs.Examined.{refused_when_due, sheet_when_kept}
 use Rattle.rules.proofs.ChosenOnce.{chosen_once}
 use Rattle.rules.proofs.OutcomeLaws.{chosen_outcome}
 use Rattle.rules.proofs.NitrateColumns.{examined_columns, chosen_columns}
+use Rattle.rules.specs.declared.PricedSheet.{PricedSheet}
 
 -- ---- a cubic metre
 
@@ -84,25 +85,25 @@ pub record ValidTariff (t : Tariff) : Type 0 where
   pub prices : (k : ℕ) → k < t.count → band_price t k ≤ most_price
   pub surcharge : t.surcharge ≤ most_surcharge
 
-prices_at : (t : Tariff) (n : ℕ) → T (prices_kept t.prices n) → (k : ℕ) → k < n → band_price t k ≤ most_price
+prices_at : (t : Tariff) (n : ℕ) → T (prices_kept t n) → (k : ℕ) → k < n → band_price t k ≤ most_price
 unfolding prices_kept
 prices_at t zero h k l = absurd (omega (arith, l))
-prices_at t (suc n) h k l = at (eq-or-lt_of_le (omega (arith, l))) (prices_at t n (and_l (prices_kept t.prices n) _ h) k)
+prices_at t (suc n) h k l = at (eq-or-lt_of_le (omega (arith, l))) (prices_at t n (and_l (prices_kept t n) _ h) k)
   where
     at : (k ≡ n) ⊎ (k < n) → (k < n → band_price t k ≤ most_price) → band_price t k ≤ most_price
-    at (inl same) rest = subst (λ (i : ℕ). band_price t i ≤ most_price) (sym same) (leb→le (band_price t n) most_price (and_r (prices_kept t.prices n) _ h))
+    at (inl same) rest = subst (λ (i : ℕ). band_price t i ≤ most_price) (sym same) (leb→le (band_price t n) most_price (and_r (prices_kept t n) _ h))
     at (inr less) rest = rest less
 
 pub valid_tariff : (t : Tariff) → T (tariff_valid t) → ValidTariff t
 unfolding tariff_valid
 valid_tariff t h =
     let count = (within_between 1 most_bands t.count).0 (and_l (within 1 most_bands t.count) _ h) in
-    let later = and_r (limits_rise t.limits (t.count - 1)) _ (and_r (within 1 most_bands t.count) _ h) in
+    let later = and_r (limits_rise t (t.count - 1)) _ (and_r (within 1 most_bands t.count) _ h) in
     record {
       least = count.least;
       most = count.most;
-      prices = prices_at t t.count (and_l (prices_kept t.prices t.count) _ later);
-      surcharge = leb→le t.surcharge most_surcharge (and_r (prices_kept t.prices t.count) _ later);
+      prices = prices_at t t.count (and_l (prices_kept t t.count) _ later);
+      surcharge = leb→le t.surcharge most_surcharge (and_r (prices_kept t t.count) _ later);
     }
 
 -- no metre costs more than 1,000,000
@@ -135,28 +136,28 @@ cheaper_tariff t u each surcharge s =
 -- ---- the calls
 
 -- A valid tariff changes neither number nor sheet of an answer.
-pub priced_sheet_lem : (t : Tariff) (c : Answer) → T (tariff_valid t) → (price_number (priced t c) ≡ answer_number c) × (price_sheet (priced t c) ≡ answer_sheet c)
-unfolding priced answer_number answer_sheet price_number price_sheet
-priced_sheet_lem t (Answer.Refused n) v = (refl, refl)
-priced_sheet_lem t (Answer.Designed s) v = go (tariff_valid t) v
+pub priced_sheet_lem : (t : Tariff) (c : Answer) → T (tariff_valid t) → (answer_number (priced t c) ≡ answer_number c) × (price_sheet (priced t c) ≡ answer_sheet c)
+unfolding priced answer_number answer_sheet price_sheet
+priced_sheet_lem t (Err n) v = (refl, refl)
+priced_sheet_lem t (Ok s) v = go (tariff_valid t) v
   where
-    go : (b : Bool) → T b → (price_number (priced_sheet b t s) ≡ 0) × (price_sheet (priced_sheet b t s) ≡ s)
+    go : (b : Bool) → T b → (answer_number (priced_sheet b t s) ≡ 0) × (price_sheet (priced_sheet b t s) ≡ s)
     go true h = (refl, refl)
     go false h = absurd h
 
 -- two prices of the design chosen are one
-pub priced_once : (p : Plant) (r : Readings) (t : Tariff) (a b : PriceAnswer) → ChosenPriced p r t a → ChosenPriced p r t b → a ≡ b
+pub priced_once : (p : Plant) (r : Readings) (t : Tariff) (a b : Result PricedSheet Refusal) → ChosenPriced p r t a → ChosenPriced p r t b → a ≡ b
 priced_once p r t a b g h = g.priced_choice ∙ (ap (priced t) (chosen_once p r g.choice h.choice g.chosen h.chosen) ∙ sym h.priced_choice)
 
 -- a candidate examined
 pub priced_examined :
-    (p : Plant) (r : Readings) (y : Candidate) (t : Tariff) (a : PriceAnswer)
+    (p : Plant) (r : Readings) (y : Candidate) (t : Tariff) (a : Result PricedSheet Refusal)
     → a ≡ examine_priced p r y t
-    → PricedExamined p r y t (price_number a) (price_sheet a) (price_value a)
-unfolding examine_priced priced price_number price_sheet price_value
-priced_examined p r y t a e = subst (λ (b : PriceAnswer). PricedExamined p r y t (price_number b) (price_sheet b) (price_value b)) (sym e) (go (examine p r y) refl)
+    → PricedExamined p r y t (answer_number a) (price_sheet a) (price_value a)
+unfolding examine_priced priced answer_number price_sheet price_value
+priced_examined p r y t a e = subst (λ (b : Result PricedSheet Refusal). PricedExamined p r y t (answer_number b) (price_sheet b) (price_value b)) (sym e) (go (examine p r y) refl)
   where
-    sheet : (s : Sheet) → examine p r y ≡ Answer.Designed s → (b : Bool) → tariff_valid t ≡ b → let q = priced_sheet b t s in PricedExamined p r y t (price_number q) (price_sheet q) (price_value q)
+    sheet : (s : Sheet) → examine p r y ≡ Ok s → (b : Bool) → tariff_valid t ≡ b → let q = priced_sheet b t s in PricedExamined p r y t (answer_number q) (price_sheet q) (price_value q)
     sheet s h true v =
         let kept = (sheet_when_kept p r y s).0 h in
         inl (record { numbered = refl; kept = kept.0; valid = subst T (sym v) tt; figures = sym kept.1; cents = refl })
@@ -164,21 +165,21 @@ priced_examined p r y t a e = subst (λ (b : PriceAnswer). PricedExamined p r y 
         let kept = (sheet_when_kept p r y s).0 h in
         inr (record { refusal = Refusal.Tariff; is_due = inr (refl, kept.0, subst (λ (b : Bool). T (not b)) (sym v) tt); numbered = refl; empty = refl; zero = refl })
 
-    go : (c : Answer) → examine p r y ≡ c → let q = priced t c in PricedExamined p r y t (price_number q) (price_sheet q) (price_value q)
-    go (Answer.Designed s) h = sheet s h (tariff_valid t) refl
-    go (Answer.Refused n) h = inr (record { refusal = n; is_due = inl ((refused_when_due p r y n).0 h); numbered = refl; empty = refl; zero = refl })
+    go : (c : Answer) → examine p r y ≡ c → let q = priced t c in PricedExamined p r y t (answer_number q) (price_sheet q) (price_value q)
+    go (Ok s) h = sheet s h (tariff_valid t) refl
+    go (Err n) h = inr (record { refusal = n; is_due = inl ((refused_when_due p r y n).0 h); numbered = refl; empty = refl; zero = refl })
 
 -- the design chosen
 pub priced_chosen :
-    (p : Plant) (r : Readings) (t : Tariff) (a : PriceAnswer)
+    (p : Plant) (r : Readings) (t : Tariff) (a : Result PricedSheet Refusal)
     → ChosenPriced p r t a
-    → PricedChosen p r t (price_number a) (price_sheet a) (price_value a)
-unfolding priced answer_number answer_sheet price_number price_sheet price_value
+    → PricedChosen p r t (answer_number a) (price_sheet a) (price_value a)
+unfolding priced answer_number answer_sheet price_sheet price_value
 priced_chosen p r t a h =
-    subst (λ (b : PriceAnswer). PricedChosen p r t (price_number b) (price_sheet b) (price_value b)) (sym h.priced_choice)
+    subst (λ (b : Result PricedSheet Refusal). PricedChosen p r t (answer_number b) (price_sheet b) (price_value b)) (sym h.priced_choice)
     (go h.choice (chosen_outcome p r h.choice h.chosen))
   where
-    sheet : (s : Sheet) → ChosenOutcome p r 0 s → (b : Bool) → tariff_valid t ≡ b → let q = priced_sheet b t s in PricedChosen p r t (price_number q) (price_sheet q) (price_value q)
+    sheet : (s : Sheet) → ChosenOutcome p r 0 s → (b : Bool) → tariff_valid t ≡ b → let q = priced_sheet b t s in PricedChosen p r t (answer_number q) (price_sheet q) (price_value q)
     sheet s (inl d) true v = inl (record { numbered = refl; kept = d.kept; valid = subst T (sym v) tt; least = d.least; cents = refl })
     sheet s (inl d) false v =
         inr (record {
@@ -190,24 +191,24 @@ priced_chosen p r t a h =
         })
     sheet s (inr d) b v = absurd (omega (arith, d.numbered, refusal_number_between d.refusal))
 
-    go : (c : Answer) → ChosenOutcome p r (answer_number c) (answer_sheet c) → let q = priced t c in PricedChosen p r t (price_number q) (price_sheet q) (price_value q)
-    go (Answer.Designed s) o = sheet s o (tariff_valid t) refl
-    go (Answer.Refused n) (inl d) = absurd (omega (arith, d.numbered, refusal_number_between n))
-    go (Answer.Refused n) (inr d) = inr (record { refusal = d.refusal; is_due = inl d.is_due; numbered = d.numbered; empty = refl; zero = refl })
+    go : (c : Answer) → ChosenOutcome p r (answer_number c) (answer_sheet c) → let q = priced t c in PricedChosen p r t (answer_number q) (price_sheet q) (price_value q)
+    go (Ok s) o = sheet s o (tariff_valid t) refl
+    go (Err n) (inl d) = absurd (omega (arith, d.numbered, refusal_number_between n))
+    go (Err n) (inr d) = inr (record { refusal = d.refusal; is_due = inl d.is_due; numbered = d.numbered; empty = refl; zero = refl })
 
 -- the two columns of a priced sheet are those of the sheet
 priced_columns : (p : Plant) (r : Readings) (t : Tariff) (c : Answer) → TwoColumns p r c → PriceColumns p r (priced t c)
 unfolding priced
-priced_columns p r t (Answer.Designed s) h = go (tariff_valid t)
+priced_columns p r t (Ok s) h = go (tariff_valid t)
   where
     go : (b : Bool) → PriceColumns p r (priced_sheet b t s)
     go true = h
     go false = tt
-priced_columns p r t (Answer.Refused n) h = tt
+priced_columns p r t (Err n) h = tt
 
-pub priced_examined_columns : (p : Plant) (r : Readings) (y : Candidate) (t : Tariff) (a : PriceAnswer) → a ≡ examine_priced p r y t → PriceColumns p r a
+pub priced_examined_columns : (p : Plant) (r : Readings) (y : Candidate) (t : Tariff) (a : Result PricedSheet Refusal) → a ≡ examine_priced p r y t → PriceColumns p r a
 unfolding examine_priced
 priced_examined_columns p r y t a e = subst (PriceColumns p r) (sym e) (priced_columns p r t (examine p r y) (examined_columns p r y (examine p r y) refl))
 
-pub priced_chosen_columns : (p : Plant) (r : Readings) (t : Tariff) (a : PriceAnswer) → ChosenPriced p r t a → PriceColumns p r a
+pub priced_chosen_columns : (p : Plant) (r : Readings) (t : Tariff) (a : Result PricedSheet Refusal) → ChosenPriced p r t a → PriceColumns p r a
 priced_chosen_columns p r t a h = subst (PriceColumns p r) (sym h.priced_choice) (priced_columns p r t h.choice (chosen_columns p r h.choice h.chosen))

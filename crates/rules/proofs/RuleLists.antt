@@ -8,40 +8,41 @@ use Prim.Native.Nat.{ℕ}
 use native.Mathlib.Omega.{arith}
 use borrow.Author.Tests.{eq-eqb}
 use lib.Dec.{T, eqb}
+use Rattle.std.specs.Prelude.{Ok, Err}
 use Rattle.rules.specs.Rules.{Rule, all_kept, verdict, after, FirstBroken}
 use Rattle.rules.specs.Answers.{refusal_number}
 use Rattle.rules.specs.declared.Refusal.{Refusal}
-use Rattle.rules.specs.declared.Verdict.{Verdict}
+use Rattle.rules.specs.Results.{Verdict}
 
 -- a verdict is not both
-pub kept_not_broken : (n : Refusal) → Verdict.Broken n ≡ Verdict.Kept → ⊥
+pub kept_not_broken : (n : Refusal) → ◌≡◌ {A = Verdict} (Err n) (Ok tt) → ⊥
 kept_not_broken n e = let z : ◌≡◌ {A = ℕ} 0 1 = cc in omega arith
 
-pub all_kept_verdict : (l : List Rule) → T (all_kept l) ↔ (verdict l ≡ Verdict.Kept)
+pub all_kept_verdict : (l : List Rule) → T (all_kept l) ↔ (verdict l ≡ (Ok tt))
 all_kept_verdict [] = (λ t. refl, λ e. tt)
 all_kept_verdict (r ∷ later) = go r.kept (all_kept_verdict later)
   where
-    go : (b : Bool) → T (all_kept later) ↔ (verdict later ≡ Verdict.Kept) → T (b && all_kept later) ↔ (cond b (verdict later) (Verdict.Broken r.refusal) ≡ Verdict.Kept)
+    go : (b : Bool) → T (all_kept later) ↔ (verdict later ≡ (Ok tt)) → T (b && all_kept later) ↔ (cond b (verdict later) (Err r.refusal) ≡ (Ok tt))
     go true h = h
     go false h = (λ t. absurd t, λ e. kept_not_broken r.refusal e)
 
-pub broken_verdict : (l : List Rule) (n : Refusal) → FirstBroken l n ↔ (verdict l ≡ Verdict.Broken n)
+pub broken_verdict : (l : List Rule) (n : Refusal) → FirstBroken l n ↔ (verdict l ≡ Err n)
 broken_verdict [] n = (λ f. absurd f, λ e. kept_not_broken n (sym e))
 broken_verdict (r ∷ later) n = go r.kept (broken_verdict later n)
   where
     go :
         (b : Bool)
-        → FirstBroken later n ↔ (verdict later ≡ Verdict.Broken n)
-        → ((T (not b) × (r.refusal ≡ n)) ⊎ (T b × FirstBroken later n)) ↔ (cond b (verdict later) (Verdict.Broken r.refusal) ≡ Verdict.Broken n)
+        → FirstBroken later n ↔ (verdict later ≡ Err n)
+        → ((T (not b) × (r.refusal ≡ n)) ⊎ (T b × FirstBroken later n)) ↔ (cond b (verdict later) (Err r.refusal) ≡ Err n)
     go true h = (λ s. pass s, λ e. inr (tt, h.1 e))
       where
-        pass : ((T (not true) × (r.refusal ≡ n)) ⊎ (T true × FirstBroken later n)) → verdict later ≡ Verdict.Broken n
+        pass : ((T (not true) × (r.refusal ≡ n)) ⊎ (T true × FirstBroken later n)) → verdict later ≡ Err n
         pass (inl f) = absurd f.0
         pass (inr f) = h.0 f.1
     go false h = (λ s. stop s, λ e. inl (tt, cc))
       where
-        stop : ((T (not false) × (r.refusal ≡ n)) ⊎ (T false × FirstBroken later n)) → Verdict.Broken r.refusal ≡ Verdict.Broken n
-        stop (inl f) = ap Verdict.Broken f.1
+        stop : ((T (not false) × (r.refusal ≡ n)) ⊎ (T false × FirstBroken later n)) → ◌≡◌ {A = Verdict} (Err r.refusal) (Err n)
+        stop (inl f) = ap Err f.1
         stop (inr f) = absurd f.0
 
 -- some rule of a list has this number
@@ -70,17 +71,17 @@ verdict_append (r ∷ later) b = go r.kept (verdict_append later b)
     go :
         (k : Bool)
         → verdict (later ++ b) ≡ after (verdict later) (verdict b)
-        → cond k (verdict (later ++ b)) (Verdict.Broken r.refusal) ≡ after (cond k (verdict later) (Verdict.Broken r.refusal)) (verdict b)
+        → cond k (verdict (later ++ b)) (Err r.refusal) ≡ after (cond k (verdict later) (Err r.refusal)) (verdict b)
     go true h = h
     go false h = refl
 
 -- a rule that is kept, at a list's end, changes nothing
 pub verdict_kept_last : (l : List Rule) (r : Rule) → r.kept ≡ true → verdict (l ++ (r ∷ [])) ≡ verdict l
-verdict_kept_last l r e = verdict_append l (r ∷ []) ∙ (ap (λ (b : Bool). after (verdict l) (cond b Verdict.Kept (Verdict.Broken r.refusal))) e ∙ same (verdict l))
+verdict_kept_last l r e = verdict_append l (r ∷ []) ∙ (ap (λ (b : Bool). after (verdict l) (cond b (Ok tt) (Err r.refusal))) e ∙ same (verdict l))
   where
-    same : (v : Verdict) → after v Verdict.Kept ≡ v
-    same Verdict.Kept = refl
-    same (Verdict.Broken n) = refl
+    same : (v : Verdict) → after v (Ok tt) ≡ v
+    same (Ok u) = refl
+    same (Err n) = refl
 
 pub kept_append : (a b : List Rule) → T (all_kept (a ++ b)) ↔ (T (all_kept a) × T (all_kept b))
 kept_append [] b = (λ t. (tt, t), λ t. t.1)
@@ -100,10 +101,10 @@ broken_append a b n = (
   λ s. (broken_verdict (a ++ b) n).1 (verdict_append a b ∙ back s),
 )
   where
-    forth : (v : Verdict) → verdict a ≡ v → after (verdict a) (verdict b) ≡ Verdict.Broken n → FirstBroken a n ⊎ (T (all_kept a) × FirstBroken b n)
-    forth Verdict.Kept e h = inr ((all_kept_verdict a).1 e, (broken_verdict b n).1 (ap (λ (w : Verdict). after w (verdict b)) (sym e) ∙ h))
-    forth (Verdict.Broken m) e h = inl ((broken_verdict a n).1 (e ∙ (ap (λ (w : Verdict). after w (verdict b)) (sym e) ∙ h)))
+    forth : (v : Verdict) → verdict a ≡ v → after (verdict a) (verdict b) ≡ Err n → FirstBroken a n ⊎ (T (all_kept a) × FirstBroken b n)
+    forth (Ok u) e h = inr ((all_kept_verdict a).1 e, (broken_verdict b n).1 (ap (λ (w : Verdict). after w (verdict b)) (sym e) ∙ h))
+    forth (Err m) e h = inl ((broken_verdict a n).1 (e ∙ (ap (λ (w : Verdict). after w (verdict b)) (sym e) ∙ h)))
 
-    back : FirstBroken a n ⊎ (T (all_kept a) × FirstBroken b n) → after (verdict a) (verdict b) ≡ Verdict.Broken n
+    back : FirstBroken a n ⊎ (T (all_kept a) × FirstBroken b n) → after (verdict a) (verdict b) ≡ Err n
     back (inl f) = ap (λ (w : Verdict). after w (verdict b)) ((broken_verdict a n).0 f)
     back (inr f) = ap (λ (w : Verdict). after w (verdict b)) ((all_kept_verdict a).0 f.0) ∙ (broken_verdict b n).0 f.1

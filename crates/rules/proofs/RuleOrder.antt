@@ -5,6 +5,7 @@ use mathlib.Core.List.{List, [], ◌∷◌}
 use Prim.Native.Nat.{◌≤◌, ◌<◌}
 use native.Mathlib.Omega.{arith}
 use lib.Dec.{T, lit≤, lit<}
+use Rattle.std.specs.Prelude.{Ok, Err}
 use Rattle.rules.specs.PlantData.{within}
 use Rattle.rules.specs.Ranges.{Between}
 use Rattle.rules.specs.Census.{answer_numbers}
@@ -12,14 +13,14 @@ use Rattle.rules.specs.Rules.{Rule}
 use Rattle.rules.specs.Accepting.{data_rules}
 use Rattle.rules.specs.Examining.{candidate_rules, examination_rules}
 use Rattle.rules.specs.Existing.{built_rules}
-use Rattle.rules.specs.Answers.{refusal_number, verdict_number}
+use Rattle.rules.specs.Answers.{refusal_number, answer_number}
 use Rattle.rules.specs.declared.Plant.{Plant}
 use Rattle.rules.specs.declared.Readings.{Readings}
 use Rattle.rules.specs.declared.Candidate.{Candidate}
 use Rattle.rules.specs.declared.Existing.{Existing}
 use Rattle.rules.specs.declared.IndexSpan.{IndexSpan}
 use Rattle.rules.specs.declared.Refusal.{Refusal}
-use Rattle.rules.specs.declared.Verdict.{Verdict}
+use Rattle.rules.specs.Results.{Verdict}
 use Rattle.rules.proofs.Tests.{within_between}
 
 -- the refusals of a list of rules
@@ -100,12 +101,12 @@ refusal_number_between n = (within_between 1 31 (refusal_number n)).0 (small n)
 pub refusal_number_most : (n : Refusal) → refusal_number n ≤ 255
 refusal_number_most n = omega (arith, refusal_number_between n)
 
-pub verdict_number_most : (v : Verdict) → verdict_number v ≤ 255
-unfolding verdict_number
-verdict_number_most Verdict.Kept = lit≤ tt
-verdict_number_most (Verdict.Broken n) = refusal_number_most n
+pub verdict_number_most : (v : Verdict) → answer_number v ≤ 255
+unfolding answer_number
+verdict_number_most (Ok u) = lit≤ tt
+verdict_number_most (Err n) = refusal_number_most n
 
-pub verdict_number_below : (v : Verdict) → verdict_number v < answer_numbers
-unfolding verdict_number
-verdict_number_below Verdict.Kept = lit< tt
-verdict_number_below (Verdict.Broken n) = omega (arith, refusal_number_between n)
+pub verdict_number_below : (v : Verdict) → answer_number v < answer_numbers
+unfolding answer_number
+verdict_number_below (Ok u) = lit< tt
+verdict_number_below (Err n) = omega (arith, refusal_number_between n)

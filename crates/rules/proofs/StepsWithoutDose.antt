@@ -2,6 +2,7 @@
 use mathlib.Core.Logic.{◌↔◌}
 use mathlib.Core.Path.{◌≡◌, refl}
 use Prim.Native.Nat.{ℕ}
+use Rattle.std.specs.Prelude.{Ok, Err}
 use Rattle.rules.specs.PlantData.{figures_without_dose}
 use Rattle.rules.specs.Accepting.{values_of}
 use Rattle.rules.specs.ReactorSteps.{sludge_production, reactor_by, reactor_dosed}
@@ -16,8 +17,8 @@ use Rattle.rules.specs.declared.Plant.{Plant}
 use Rattle.rules.specs.declared.Readings.{Readings}
 use Rattle.rules.specs.declared.Concentrations.{Concentrations}
 use Rattle.rules.specs.declared.Candidate.{Candidate}
-use Rattle.rules.specs.declared.Acceptance.{Acceptance}
-use Rattle.rules.specs.declared.Answer.{Answer}
+use Rattle.rules.specs.Results.{Acceptance}
+use Rattle.rules.specs.Results.{Answer}
 use Rattle.rules.proofs.ChosenOnce.{same_order}
 
 -- what the steps and the totals rest on
@@ -71,9 +72,9 @@ unfolding without_dose
 dose_not_looked_at_by_choice p n r a = go a (accept_with steps_without_dose p r)
   where
     go : (b : Answer) (o : Acceptance) → ChosenAcceptedWith steps_without_dose (with_dose n p) b o ↔ ChosenAcceptedWith steps_without_dose p b o
-    go b (Acceptance.Refused i) = (λ h. h, λ h. h)
-    go (Answer.Refused i) (Acceptance.Accepted x) = (λ h. h, λ h. h)
-    go (Answer.Designed s) (Acceptance.Accepted x) = (
+    go b (Err i) = (λ h. h, λ h. h)
+    go (Err i) (Ok x) = (λ h. h, λ h. h)
+    go (Ok s) (Ok x) = (
       λ h.
           record {
             member = h.member;

@@ -3,6 +3,7 @@
 use mathlib.Core.Path.{◌≡◌, refl, ap, ◌∙◌}
 use mathlib.Core.List.{List, [], ◌∷◌, ◌++◌}
 use Prim.Native.Nat.{ℕ}
+use Rattle.std.specs.Prelude.{Err}
 use Rattle.rules.specs.Rules.{verdict, after}
 use Rattle.rules.specs.ReactorSteps.{reactor_of}
 use Rattle.rules.specs.AerationSteps.{aeration_of}
@@ -14,7 +15,7 @@ use Rattle.rules.specs.declared.Candidate.{Candidate}
 use Rattle.rules.specs.declared.Settling.{Settling}
 use Rattle.rules.specs.declared.Sheet.{Sheet}
 use Rattle.rules.specs.declared.Refusal.{Refusal}
-use Rattle.rules.specs.declared.Verdict.{Verdict}
+use Rattle.rules.specs.Results.{Verdict}
 use Rattle.rules.proofs.RuleLists.{verdict_append}
 
 -- the figures of a sheet that are not the tank's: all but solids, reactor, surface, depth, settling and total
@@ -33,13 +34,13 @@ figures_apart p x y other = refl
 -- a candidate that breaks 6, 7, 15 or 16 gets that refusal with any other tank
 pub refusal_apart :
     (p : Plant) (x : Concentrations) (y : Candidate) (other : Settling) (n : Refusal)
-    → verdict (grid_rule p y ∷ fraction_rules p x (reactor_of p x y.fraction)) ≡ Verdict.Broken n
-    → (verdict (candidate_rules p x y) ≡ Verdict.Broken n)
-    × (verdict (grid_rule p y ∷ (fraction_rules p x (reactor_of p x y.fraction) ++ tank_rules p other)) ≡ Verdict.Broken n)
+    → verdict (grid_rule p y ∷ fraction_rules p x (reactor_of p x y.fraction)) ≡ Err n
+    → (verdict (candidate_rules p x y) ≡ Err n)
+    × (verdict (grid_rule p y ∷ (fraction_rules p x (reactor_of p x y.fraction) ++ tank_rules p other)) ≡ Err n)
 unfolding candidate_rules
 refusal_apart p x y other n e = (with_tank (settling_of p y.return_ratio y.thickening), with_tank other)
   where
-    with_tank : (settling : Settling) → verdict (grid_rule p y ∷ (fraction_rules p x (reactor_of p x y.fraction) ++ tank_rules p settling)) ≡ Verdict.Broken n
+    with_tank : (settling : Settling) → verdict (grid_rule p y ∷ (fraction_rules p x (reactor_of p x y.fraction) ++ tank_rules p settling)) ≡ Err n
     with_tank settling =
         verdict_append (grid_rule p y ∷ fraction_rules p x (reactor_of p x y.fraction)) (tank_rules p settling)
         ∙ ap (λ (v : Verdict). after v (verdict (tank_rules p settling))) e

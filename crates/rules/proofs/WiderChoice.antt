@@ -4,13 +4,14 @@ use mathlib.Core.Path.{◌≡◌, refl, ap}
 use Prim.Native.Nat.{ℕ, ◌≤◌}
 use native.Mathlib.Omega.{arith}
 use lib.Dec.{T}
+use Rattle.std.specs.Prelude.{Ok, Err}
 use Rattle.rules.specs.Examining.{sheet_from, sheet_of, permitted}
 use Rattle.rules.specs.Choosing.{grid, candidate_of, candidate_total, ChosenAmong}
 use Rattle.rules.specs.declared.Plant.{Plant}
 use Rattle.rules.specs.declared.Concentrations.{Concentrations}
 use Rattle.rules.specs.declared.Candidate.{Candidate}
 use Rattle.rules.specs.declared.Sheet.{Sheet}
-use Rattle.rules.specs.declared.Answer.{Answer}
+use Rattle.rules.specs.Results.{Answer}
 use Rattle.rules.proofs.Examined.{permitted_keeps}
 
 pub record Wider (p q : Plant) (x : Concentrations) : Type 0 where
@@ -20,7 +21,7 @@ pub record Wider (p q : Plant) (x : Concentrations) : Type 0 where
 -- an answer is a design of at most this total
 pub record DesignAtMost (total : ℕ) (a : Answer) : Type 0 where
   pub sheet : Sheet
-  pub designed : a ≡ Answer.Designed sheet
+  pub designed : a ≡ Ok sheet
   pub most : sheet.total ≤ total
 
 own_total : (p : Plant) (x : Concentrations) (s : Sheet) → s ≡ sheet_of p x (candidate_of s) → s.total ≡ candidate_total p x (candidate_of s)
@@ -30,13 +31,13 @@ own_total p x s e = ap (λ (t : Sheet). t.total) e
 pub wider_choice :
     (p q : Plant) (x : Concentrations) (s : Sheet) (a : Answer)
     → Wider p q x
-    → ChosenAmong p x (grid p) (Answer.Designed s)
+    → ChosenAmong p x (grid p) (Ok s)
     → ChosenAmong q x (grid q) a
     → DesignAtMost s.total a
-wider_choice p q x s (Answer.Refused n) w h k =
+wider_choice p q x s (Err n) w h k =
     let allowed = w.permits (candidate_of s) h.allowed in
     absurd (k.1 (candidate_of s) ((permitted_keeps q x (candidate_of s)).0 allowed).grid allowed)
-wider_choice p q x s (Answer.Designed t) w h k =
+wider_choice p q x s (Ok t) w h k =
     let allowed = w.permits (candidate_of s) h.allowed in
     let beaten = (k.rivals (candidate_of s) ((permitted_keeps q x (candidate_of s)).0 allowed).grid allowed).total in
     let larger = w.total (candidate_of s) in

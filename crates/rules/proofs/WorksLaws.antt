@@ -9,6 +9,7 @@ use native.Mathlib.Omega.{arith}
 use borrow.Author.Tests.{ltb-true}
 use lib.Dec.{ltb}
 use lib.ListN.{length}
+use Rattle.std.specs.Prelude.{Ok, Err, Result}
 use Rattle.rules.specs.Sums.{sum_from}
 use Rattle.rules.specs.Limits.{most_lines}
 use Rattle.rules.specs.Rules.{after}
@@ -16,18 +17,17 @@ use Rattle.rules.specs.Answers.{empty_sheet, answer_sheet}
 use Rattle.rules.specs.Examining.{total_of, sheet_from, sheet_of}
 use Rattle.rules.specs.Choosing.{candidate_of}
 use Rattle.rules.specs.Lines.{line_of, line_positive, LineChosenBy, LineChosen}
-use Rattle.rules.specs.Works.{accept_works, answer_verdict, first_refused, sums_of, line_sheet, no_sums, refused_works, works_by, works_of, WorksAccepted, WorksChosen}
+use Rattle.rules.specs.Works.{accept_works, answer_verdict, first_refused, sums_of, line_sheet, no_sums, works_sheets, works_by, works_of, WorksAccepted, WorksChosen}
 use Rattle.rules.specs.declared.Plant.{Plant}
 use Rattle.rules.specs.declared.Readings.{Readings}
 use Rattle.rules.specs.declared.Concentrations.{Concentrations}
 use Rattle.rules.specs.declared.Split.{Split}
 use Rattle.rules.specs.declared.Sheet.{Sheet}
-use Rattle.rules.specs.declared.Sums.{Sums}
 use Rattle.rules.specs.declared.Works.{Works}
 use Rattle.rules.specs.declared.Refusal.{Refusal}
-use Rattle.rules.specs.declared.Verdict.{Verdict}
-use Rattle.rules.specs.declared.Acceptance.{Acceptance}
-use Rattle.rules.specs.declared.Answer.{Answer}
+use Rattle.rules.specs.Results.{Verdict}
+use Rattle.rules.specs.Results.{Acceptance}
+use Rattle.rules.specs.Results.{Answer}
 use Rattle.rules.proofs.SumLaws.{sum_same, sum_plus, values_length, values_same}
 use Rattle.rules.proofs.LineLaws.{line_once}
 
@@ -72,22 +72,21 @@ module _ (f g : ℕ → Answer) where
   same_works n e = ap (λ (v : Verdict). works_by v f n) (same_refused n e) ∙ go (first_refused g n)
     where
       go : (v : Verdict) → works_by v f n ≡ works_by v g n
-      go Verdict.Kept =
+      go (Ok u) =
           λ k.
-          record {
-            verdict = Verdict.Kept;
+          Ok (record {
             sums = same_sums n e k;
             sheets = values_same empty_sheet most_lines (line_sheet f n) (line_sheet g n) (λ i h. same_sheet n i e) k;
-          }
-      go (Verdict.Broken m) = refl
+          })
+      go (Err m) = refl
 
 -- The promise leaves one works.
-pub works_once : (p : Plant) (r : Readings) (split : Split) (v w : Works) → WorksChosen p r split v → WorksChosen p r split w → v ≡ w
+pub works_once : (p : Plant) (r : Readings) (split : Split) (v w : Result Works Refusal) → WorksChosen p r split v → WorksChosen p r split w → v ≡ w
 works_once p r split v w = go (accept_works p r split)
   where
     go : (o : Acceptance) → WorksAccepted p split v o → WorksAccepted p split w o → v ≡ w
-    go (Acceptance.Refused n) a b = a ∙ sym b
-    go (Acceptance.Accepted x) a b =
+    go (Err n) a b = a ∙ sym b
+    go (Ok x) a b =
         a.together
         ∙ (same_works a.answers b.answers split.count (λ i h. line_once (line_of p split i) x (a.answers i) (b.answers i) (a.each i h) (b.each i h))
         ∙ sym b.together)
@@ -95,17 +94,17 @@ works_once p r split v w = go (accept_works p r split)
 -- ---- the first refused line
 
 -- where every line has a sheet, none is refused; and the other way round
-pub none_refused : (f : ℕ → Answer) (n : ℕ) → ((i : ℕ) → i < n → answer_verdict (f i) ≡ Verdict.Kept) → first_refused f n ≡ Verdict.Kept
+pub none_refused : (f : ℕ → Answer) (n : ℕ) → ((i : ℕ) → i < n → answer_verdict (f i) ≡ (Ok tt)) → first_refused f n ≡ (Ok tt)
 unfolding first_refused
 none_refused f zero e = refl
 none_refused f (suc n) e =
     ap (λ (v : Verdict). after v (answer_verdict (f n))) (none_refused f n (λ i h. e i (omega arith))) ∙ e n (omega arith)
 
-kept_parts : (v w : Verdict) → after v w ≡ Verdict.Kept → (v ≡ Verdict.Kept) × (w ≡ Verdict.Kept)
-kept_parts Verdict.Kept w e = (refl, e)
-kept_parts (Verdict.Broken n) w e = absurd (let z : ◌≡◌ {A = ℕ} 0 1 = cc in omega arith)
+kept_parts : (v w : Verdict) → after v w ≡ (Ok tt) → (v ≡ (Ok tt)) × (w ≡ (Ok tt))
+kept_parts (Ok tt) w e = (refl, e)
+kept_parts (Err n) w e = absurd (let z : ◌≡◌ {A = ℕ} 0 1 = cc in omega arith)
 
-pub all_designed : (f : ℕ → Answer) (n : ℕ) → first_refused f n ≡ Verdict.Kept → (i : ℕ) → i < n → answer_verdict (f i) ≡ Verdict.Kept
+pub all_designed : (f : ℕ → Answer) (n : ℕ) → first_refused f n ≡ (Ok tt) → (i : ℕ) → i < n → answer_verdict (f i) ≡ (Ok tt)
 unfolding first_refused
 all_designed f zero e i h = absurd (omega arith)
 all_designed f (suc n) e i h =
@@ -113,12 +112,12 @@ all_designed f (suc n) e i h =
     let at_most : i ≤ n = omega arith in
     go parts.1 (λ less. all_designed f n parts.0 i less) (eq-or-lt_of_le at_most)
   where
-    go : answer_verdict (f n) ≡ Verdict.Kept → (i < n → answer_verdict (f i) ≡ Verdict.Kept) → (i ≡ n) ⊎ (i < n) → answer_verdict (f i) ≡ Verdict.Kept
+    go : answer_verdict (f n) ≡ (Ok tt) → (i < n → answer_verdict (f i) ≡ (Ok tt)) → (i ≡ n) ⊎ (i < n) → answer_verdict (f i) ≡ (Ok tt)
     go last before (inl same) = ap (λ (k : ℕ). answer_verdict (f k)) same ∙ last
     go last before (inr less) = before less
 
 -- later lines change nothing of a refusal
-later_lines : (f : ℕ → Answer) (k : Refusal) (m n : ℕ) → first_refused f m ≡ Verdict.Broken k → first_refused f (m + n) ≡ Verdict.Broken k
+later_lines : (f : ℕ → Answer) (k : Refusal) (m n : ℕ) → first_refused f m ≡ Err k → first_refused f (m + n) ≡ Err k
 unfolding first_refused
 later_lines f k m zero e = let h : m + 0 ≡ m = omega arith in rw h e
 later_lines f k m (suc n) e =
@@ -130,15 +129,15 @@ later_lines f k m (suc n) e =
 pub first_decides :
     (f : ℕ → Answer) (n i : ℕ) (k : Refusal)
     → i < n
-    → ((j : ℕ) → j < i → answer_verdict (f j) ≡ Verdict.Kept)
-    → f i ≡ Answer.Refused k
-    → works_of f n ≡ refused_works k
+    → ((j : ℕ) → j < i → answer_verdict (f j) ≡ (Ok tt))
+    → f i ≡ Err k
+    → works_of f n ≡ Err k
 unfolding works_of works_by first_refused answer_verdict
 first_decides f n i k below earlier e =
-    let here : first_refused f (suc i) ≡ Verdict.Broken k =
+    let here : first_refused f (suc i) ≡ Err k =
     ap (λ (v : Verdict). after v (answer_verdict (f i))) (none_refused f i earlier) ∙ ap answer_verdict e in
     let all : suc i + (n - suc i) ≡ n = omega arith in
-    ap (λ (v : Verdict). works_by v f n) (subst (λ (m : ℕ). first_refused f m ≡ Verdict.Broken k) all (later_lines f k (suc i) (n - suc i) here))
+    ap (λ (v : Verdict). works_by v f n) (subst (λ (m : ℕ). first_refused f m ≡ Err k) all (later_lines f k (suc i) (n - suc i) here))
 
 -- ---- the total
 
@@ -150,49 +149,52 @@ sheet_total p x s e = ap (λ (t : Sheet). t.total) e ∙ sym (ap (λ (t : Sheet)
 -- a line's answer: its total, whether it has a sheet or zeros
 line_total : (line : Plant) (x : Concentrations) (a : Answer) → LineChosen line x a → (answer_sheet a).total ≡ (answer_sheet a).reactor + (answer_sheet a).settling
 unfolding answer_sheet empty_sheet
-line_total line x (Answer.Refused n) c = refl
-line_total line x (Answer.Designed s) c = go (line_positive line) c
+line_total line x (Err n) c = refl
+line_total line x (Ok s) c = go (line_positive line) c
   where
-    go : (positive : Bool) → LineChosenBy positive line x (Answer.Designed s) → s.total ≡ s.reactor + s.settling
+    go : (positive : Bool) → LineChosenBy positive line x (Ok s) → s.total ≡ s.reactor + s.settling
     go true l = sheet_total line x s l.figures
     go false e = absurd (let z : ◌≡◌ {A = ℕ} 0 1 = cc in omega arith)
 
-abbrev Adds : Sums → Type 0
-Adds sums = sums.total ≡ sums.reactor + sums.settling
+abbrev Adds : Result Works Refusal → Type 0
+Adds w = (works_sheets w).sums.total ≡ (works_sheets w).sums.reactor + (works_sheets w).sums.settling
 
 together_total :
     (f : ℕ → Answer) (n : ℕ)
     → ((i : ℕ) → i < n → (answer_sheet (f i)).total ≡ (answer_sheet (f i)).reactor + (answer_sheet (f i)).settling)
-    → (v : Verdict) → Adds (works_by v f n).sums
-unfolding works_by sums_of refused_works no_sums
-together_total f n e Verdict.Kept =
+    → (v : Verdict) → Adds (works_by v f n)
+unfolding works_by works_sheets sums_of no_sums
+together_total f n e (Ok u) =
     sum_same 0 n (λ i. (answer_sheet (f i)).total) (λ i. (answer_sheet (f i)).reactor + (answer_sheet (f i)).settling) (λ i l m. e i (omega arith))
     ∙ sum_plus 0 n (λ i. (answer_sheet (f i)).reactor) (λ i. (answer_sheet (f i)).settling)
-together_total f n e (Verdict.Broken k) = refl
+together_total f n e (Err k) = refl
 
 -- Adding volumes line by line, or first all reactors and then all settling tanks, gives one total.
-pub one_total : (p : Plant) (r : Readings) (split : Split) (w : Works) → WorksChosen p r split w → w.sums.total ≡ w.sums.reactor + w.sums.settling
-unfolding refused_works no_sums works_of
+pub one_total :
+    (p : Plant) (r : Readings) (split : Split) (w : Result Works Refusal)
+    → WorksChosen p r split w
+    → (works_sheets w).sums.total ≡ (works_sheets w).sums.reactor + (works_sheets w).sums.settling
+unfolding works_sheets no_sums works_of
 one_total p r split w = go (accept_works p r split)
   where
-    go : (o : Acceptance) → WorksAccepted p split w o → Adds w.sums
-    go (Acceptance.Refused n) e = subst (λ (v : Works). Adds v.sums) (sym e) refl
-    go (Acceptance.Accepted x) h =
-        subst (λ (v : Works). Adds v.sums) (sym h.together)
+    go : (o : Acceptance) → WorksAccepted p split w o → Adds w
+    go (Err n) e = subst Adds (sym e) refl
+    go (Ok x) h =
+        subst Adds (sym h.together)
         (together_total h.answers split.count (λ i l. line_total (line_of p split i) x (h.answers i) (h.each i l)) (first_refused h.answers split.count))
 
 -- ---- its size
 
 -- there are eight sheets, those past the last line zeros
-pub works_size : (p : Plant) (r : Readings) (split : Split) (w : Works) → WorksChosen p r split w → length w.sheets ≡ most_lines
-unfolding refused_works works_of works_by
+pub works_size : (p : Plant) (r : Readings) (split : Split) (w : Result Works Refusal) → WorksChosen p r split w → length (works_sheets w).sheets ≡ most_lines
+unfolding works_sheets works_of works_by
 works_size p r split w = go (accept_works p r split)
   where
-    by_verdict : (f : ℕ → Answer) (n : ℕ) (v : Verdict) → length (works_by v f n).sheets ≡ most_lines
-    by_verdict f n Verdict.Kept = values_length 0 most_lines (line_sheet f n)
-    by_verdict f n (Verdict.Broken k) = values_length 0 most_lines (λ i. empty_sheet)
+    by_verdict : (f : ℕ → Answer) (n : ℕ) (v : Verdict) → length (works_sheets (works_by v f n)).sheets ≡ most_lines
+    by_verdict f n (Ok u) = values_length 0 most_lines (line_sheet f n)
+    by_verdict f n (Err k) = values_length 0 most_lines (λ i. empty_sheet)
 
-    go : (o : Acceptance) → WorksAccepted p split w o → length w.sheets ≡ most_lines
-    go (Acceptance.Refused n) e = ap (λ (v : Works). length v.sheets) e ∙ values_length 0 most_lines (λ i. empty_sheet)
-    go (Acceptance.Accepted x) h =
-        ap (λ (v : Works). length v.sheets) h.together ∙ by_verdict h.answers split.count (first_refused h.answers split.count)
+    go : (o : Acceptance) → WorksAccepted p split w o → length (works_sheets w).sheets ≡ most_lines
+    go (Err n) e = ap (λ (v : Result Works Refusal). length (works_sheets v).sheets) e ∙ values_length 0 most_lines (λ i. empty_sheet)
+    go (Ok x) h =
+        ap (λ (v : Result Works Refusal). length (works_sheets v).sheets) h.together ∙ by_verdict h.answers split.count (first_refused h.answers split.count)

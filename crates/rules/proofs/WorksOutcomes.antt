@@ -10,18 +10,19 @@ use borrow.Author.Tests.{lt-ltb, le-ltb, leb-true, leb-false}
 use lib.Dec.{T, leb}
 use lib.Ieee.Fits.{and_l, and_r}
 use lib.ListN.{get_or}
+use Rattle.std.specs.Prelude.{Ok, Err, Result}
 use Rattle.words.specs.Bytes.{chunked}
 use Rattle.rules.specs.Sums.{values_from}
 use Rattle.rules.specs.Limits.{most_lines}
 use Rattle.rules.specs.Rules.{all_kept, after}
 use Rattle.rules.specs.Accepting.{values_of, data_rules}
-use Rattle.rules.specs.Answers.{refusal_number, empty_sheet, answer_sheet, verdict_number, sheet_figures}
+use Rattle.rules.specs.Answers.{refusal_number, empty_sheet, answer_sheet, answer_number, sheet_figures}
 use Rattle.rules.specs.Ranges.{PlantRanges, ConcentrationRanges}
 use Rattle.rules.specs.Choosing.{candidate_of}
 use Rattle.rules.specs.Outcomes.{AllZero}
 use Rattle.rules.specs.TwoColumns.{Removes}
 use Rattle.rules.specs.Lines.{split_valid, line_of, line_positive, LineChosenBy, LineChosen}
-use Rattle.rules.specs.Works.{works_rules, accept_works, answer_verdict, first_refused, line_sheet, no_sums, refused_works, works_by, works_of, WorksOfLines, WorksAccepted, WorksChosen, works_number, sum_figures, works_figures}
+use Rattle.rules.specs.Works.{works_rules, accept_works, answer_verdict, first_refused, line_sheet, no_sums, works_sheets, works_by, works_of, WorksOfLines, WorksAccepted, WorksChosen, sum_figures, works_figures}
 use Rattle.rules.specs.WorksOutcome.{LineDesigned, sheet_at, WorksDesigned, FirstLine, WorksOutcome, WorksColumns}
 use Rattle.rules.specs.declared.Plant.{Plant}
 use Rattle.rules.specs.declared.Readings.{Readings}
@@ -30,9 +31,9 @@ use Rattle.rules.specs.declared.Split.{Split}
 use Rattle.rules.specs.declared.Sheet.{Sheet}
 use Rattle.rules.specs.declared.Works.{Works}
 use Rattle.rules.specs.declared.Refusal.{Refusal}
-use Rattle.rules.specs.declared.Verdict.{Verdict}
-use Rattle.rules.specs.declared.Acceptance.{Acceptance}
-use Rattle.rules.specs.declared.Answer.{Answer}
+use Rattle.rules.specs.Results.{Verdict}
+use Rattle.rules.specs.Results.{Acceptance}
+use Rattle.rules.specs.Results.{Answer}
 use Rattle.rules.proofs.SumLaws.{values_at, values_past}
 use Rattle.rules.proofs.AcceptedData.{accepted_kept, refused_broken, none_due_ranges}
 use Rattle.rules.proofs.NitrateColumns.{two_columns}
@@ -46,7 +47,7 @@ pub record WorksRanges (p : Plant) (x : Concentrations) (split : Split) : Type 0
   pub plant : PlantRanges p
   pub concentrations : ConcentrationRanges x
 
-pub works_ranges : (p : Plant) (r : Readings) (split : Split) (x : Concentrations) → accept_works p r split ≡ Acceptance.Accepted x → WorksRanges p x split
+pub works_ranges : (p : Plant) (r : Readings) (split : Split) (x : Concentrations) → accept_works p r split ≡ Ok x → WorksRanges p x split
 unfolding accept_works works_rules
 works_ranges p r split x e =
     let given = accepted_kept (works_rules p r split) (values_of p r) x e in
@@ -58,44 +59,44 @@ works_ranges p r split x e =
     }
 
 -- a line with a sheet
-pub designed_line : (line : Plant) (x : Concentrations) (s : Sheet) → LineChosen line x (Answer.Designed s) → LineDesigned line x s
+pub designed_line : (line : Plant) (x : Concentrations) (s : Sheet) → LineChosen line x (Ok s) → LineDesigned line x s
 designed_line line x s c = go (line_positive line) refl c
   where
-    go : (b : Bool) → line_positive line ≡ b → LineChosenBy b line x (Answer.Designed s) → LineDesigned line x s
+    go : (b : Bool) → line_positive line ≡ b → LineChosenBy b line x (Ok s) → LineDesigned line x s
     go true e l = record { positive = subst T (sym e) tt; least = l }
     go false e h = absurd (let z : ◌≡◌ {A = ℕ} 0 1 = cc in omega arith)
 
 -- the same of an answer that is none refused
-kept_line : (line : Plant) (x : Concentrations) (a : Answer) → answer_verdict a ≡ Verdict.Kept → LineChosen line x a → LineDesigned line x (answer_sheet a)
+kept_line : (line : Plant) (x : Concentrations) (a : Answer) → answer_verdict a ≡ (Ok tt) → LineChosen line x a → LineDesigned line x (answer_sheet a)
 unfolding answer_verdict answer_sheet
-kept_line line x (Answer.Designed s) e c = designed_line line x s c
-kept_line line x (Answer.Refused n) e c = absurd (let z : ◌≡◌ {A = ℕ} 0 1 = cc in omega arith)
+kept_line line x (Ok s) e c = designed_line line x s c
+kept_line line x (Err n) e c = absurd (let z : ◌≡◌ {A = ℕ} 0 1 = cc in omega arith)
 
 -- where lines are refused, there is a first of them
 pub record FirstAt (f : ℕ → Answer) (n : ℕ) (k : Refusal) : Type 0 where
   pub line : ℕ
   pub below : line < n
-  pub refused : f line ≡ Answer.Refused k
-  pub earlier : (j : ℕ) → j < line → answer_verdict (f j) ≡ Verdict.Kept
+  pub refused : f line ≡ Err k
+  pub earlier : (j : ℕ) → j < line → answer_verdict (f j) ≡ (Ok tt)
 
-refused_answer : (a : Answer) (k : Refusal) → answer_verdict a ≡ Verdict.Broken k → a ≡ Answer.Refused k
+refused_answer : (a : Answer) (k : Refusal) → answer_verdict a ≡ Err k → a ≡ Err k
 unfolding answer_verdict
-refused_answer (Answer.Designed s) k e = absurd (let z : ◌≡◌ {A = ℕ} 0 1 = cc in omega arith)
-refused_answer (Answer.Refused n) k e = cc
+refused_answer (Ok s) k e = absurd (let z : ◌≡◌ {A = ℕ} 0 1 = cc in omega arith)
+refused_answer (Err n) k e = cc
 
-pub first_at : (f : ℕ → Answer) (n : ℕ) (k : Refusal) → first_refused f n ≡ Verdict.Broken k → FirstAt f n k
+pub first_at : (f : ℕ → Answer) (n : ℕ) (k : Refusal) → first_refused f n ≡ Err k → FirstAt f n k
 unfolding first_refused
 first_at f zero k e = absurd (let z : ◌≡◌ {A = ℕ} 0 1 = cc in omega arith)
 first_at f (suc n) k e = go (first_refused f n) refl e (λ h. first_at f n k h)
   where
     go :
         (v : Verdict) → first_refused f n ≡ v
-        → after v (answer_verdict (f n)) ≡ Verdict.Broken k
-        → (first_refused f n ≡ Verdict.Broken k → FirstAt f n k)
+        → after v (answer_verdict (f n)) ≡ Err k
+        → (first_refused f n ≡ Err k → FirstAt f n k)
         → FirstAt f (suc n) k
-    go Verdict.Kept q h before =
+    go (Ok u) q h before =
         record { line = n; below = omega arith; refused = refused_answer (f n) k h; earlier = λ j l. all_designed f n q j l }
-    go (Verdict.Broken m) q h before =
+    go (Err m) q h before =
         let first = before (q ∙ h) in
         record { line = first.line; below = omega (arith, first.below); refused = first.refused; earlier = first.earlier }
 
@@ -133,22 +134,22 @@ unfolding values_from chunked
 sheets_zero a zero = tt
 sheets_zero a (suc n) = both_zero (sheet_figures empty_sheet) (chunked sheet_figures (values_from (a + 1) n (λ i. empty_sheet))) empty_zeros (sheets_zero (a + 1) n)
 
-works_zeros : (n : Refusal) → AllZero (works_figures (refused_works n))
-unfolding works_figures sum_figures refused_works no_sums
+works_zeros : (n : Refusal) → AllZero (works_figures (works_sheets (Err n)))
+unfolding works_figures sum_figures works_sheets no_sums
 works_zeros n =
     both_zero (sum_figures no_sums) (chunked sheet_figures (values_from 0 most_lines (λ i. empty_sheet)))
     (refl, (refl, (refl, (refl, (refl, (refl, (refl, (refl, tt))))))))
     (sheets_zero 0 most_lines)
 
 -- an answer that is none refused is its sheet
-pub designed_answer : (a : Answer) → answer_verdict a ≡ Verdict.Kept → a ≡ Answer.Designed (answer_sheet a)
+pub designed_answer : (a : Answer) → answer_verdict a ≡ (Ok tt) → a ≡ Ok (answer_sheet a)
 unfolding answer_verdict answer_sheet
-designed_answer (Answer.Designed s) e = refl
-designed_answer (Answer.Refused n) e = absurd (let z : ◌≡◌ {A = ℕ} 0 1 = cc in omega arith)
+designed_answer (Ok s) e = refl
+designed_answer (Err n) e = absurd (let z : ◌≡◌ {A = ℕ} 0 1 = cc in omega arith)
 
 -- ---- the promises
 
-module _ (p : Plant) (r : Readings) (split : Split) (w : Works) (x : Concentrations) (q : accept_works p r split ≡ Acceptance.Accepted x) (h : WorksOfLines p x split w) where
+module _ (p : Plant) (r : Readings) (split : Split) (w : Result Works Refusal) (x : Concentrations) (q : accept_works p r split ≡ Ok x) (h : WorksOfLines p x split w) where
   count_most : split.count ≤ most_lines
   count_most = (valid_split split (works_ranges p r split x q).valid).lines.most
 
@@ -160,34 +161,34 @@ module _ (p : Plant) (r : Readings) (split : Split) (w : Works) (x : Concentrati
   unfolding works_of
   by_verdict v e = h.together ∙ ap (λ (u : Verdict). works_by u h.answers split.count) e
 
-  module _ (e : first_refused h.answers split.count ≡ Verdict.Kept) where
-    pub sheet_of_line : (i : ℕ) → i < split.count → sheet_at w i ≡ answer_sheet (h.answers i)
-    unfolding works_by
-    sheet_of_line i l = ap (λ (v : Works). sheet_at v i) (by_verdict Verdict.Kept e) ∙ sheets_at h.answers split.count i count_most l
+  module _ (e : first_refused h.answers split.count ≡ (Ok tt)) where
+    pub sheet_of_line : (i : ℕ) → i < split.count → sheet_at (works_sheets w) i ≡ answer_sheet (h.answers i)
+    unfolding works_by works_sheets
+    sheet_of_line i l = ap (λ (v : Result Works Refusal). sheet_at (works_sheets v) i) (by_verdict (Ok tt) e) ∙ sheets_at h.answers split.count i count_most l
 
-    line_designed : (i : ℕ) → i < split.count → LineDesigned (line_of p split i) (values_of p r) (sheet_at w i)
+    line_designed : (i : ℕ) → i < split.count → LineDesigned (line_of p split i) (values_of p r) (sheet_at (works_sheets w) i)
     line_designed i l =
-        subst (λ (y : Concentrations). LineDesigned (line_of p split i) y (sheet_at w i)) (sym given.1)
+        subst (λ (y : Concentrations). LineDesigned (line_of p split i) y (sheet_at (works_sheets w) i)) (sym given.1)
         (subst (LineDesigned (line_of p split i) x) (sym (sheet_of_line i l))
         (kept_line (line_of p split i) x (h.answers i) (all_designed h.answers split.count e i l) (h.each i l)))
 
-    works_designed : WorksDesigned p r split (works_number w) w
-    unfolding works_by works_number verdict_number
+    works_designed : WorksDesigned p r split (answer_number w) (works_sheets w)
+    unfolding works_by works_sheets answer_number
     works_designed =
         record {
-          numbered = ap works_number (by_verdict Verdict.Kept e);
+          numbered = ap answer_number (by_verdict (Ok tt) e);
           kept = given.0;
           lines = line_designed;
-          past = λ i l. ap (λ (v : Works). sheet_at v i) (by_verdict Verdict.Kept e) ∙ sheets_past h.answers split.count i l;
+          past = λ i l. ap (λ (v : Result Works Refusal). sheet_at (works_sheets v) i) (by_verdict (Ok tt) e) ∙ sheets_past h.answers split.count i l;
           sums =
-              ap (λ (v : Works). v.sums) (by_verdict Verdict.Kept e)
-              ∙ same_sums h.answers (λ i. Answer.Designed (sheet_at w i)) split.count
+              ap (λ (v : Result Works Refusal). (works_sheets v).sums) (by_verdict (Ok tt) e)
+              ∙ same_sums h.answers (λ i. Ok (sheet_at (works_sheets w) i)) split.count
               (λ i l.
               designed_answer (h.answers i) (all_designed h.answers split.count e i l)
-              ∙ ap Answer.Designed (sym (sheet_of_line i l)));
+              ∙ ap Ok (sym (sheet_of_line i l)));
         }
 
-  first_line : (k : Refusal) → first_refused h.answers split.count ≡ Verdict.Broken k → FirstLine p (values_of p r) split k
+  first_line : (k : Refusal) → first_refused h.answers split.count ≡ Err k → FirstLine p (values_of p r) split k
   first_line k e =
       let first = first_at h.answers split.count k e in
       subst (λ (y : Concentrations). FirstLine p y split k) (sym given.1)
@@ -198,23 +199,26 @@ module _ (p : Plant) (r : Readings) (split : Split) (w : Works) (x : Concentrati
         earlier = λ i l. (answer_sheet (h.answers i), kept_line (line_of p split i) x (h.answers i) (first.earlier i l) (h.each i (omega (arith, first.below))));
       })
 
-pub works_outcome : (p : Plant) (r : Readings) (split : Split) (w : Works) → WorksChosen p r split w → WorksOutcome p r split (works_number w) w
-unfolding works_number verdict_number refused_works works_by accept_works
+pub works_outcome :
+    (p : Plant) (r : Readings) (split : Split) (w : Result Works Refusal)
+    → WorksChosen p r split w
+    → WorksOutcome p r split (answer_number w) (works_sheets w)
+unfolding answer_number works_by accept_works
 works_outcome p r split w h = go (accept_works p r split) refl h
   where
-    refused : (n : Refusal) → w ≡ refused_works n → (number : ℕ) → number ≡ works_number w → (number ≡ refusal_number n) × AllZero (works_figures w)
-    refused n e number m = (m ∙ ap works_number e, subst (λ (v : Works). AllZero (works_figures v)) (sym e) (works_zeros n))
+    refused : (n : Refusal) → w ≡ Err n → (answer_number w ≡ refusal_number n) × AllZero (works_figures (works_sheets w))
+    refused n e = (ap answer_number e, subst (λ (v : Result Works Refusal). AllZero (works_figures (works_sheets v))) (sym e) (works_zeros n))
 
-    go : (o : Acceptance) → accept_works p r split ≡ o → WorksAccepted p split w o → WorksOutcome p r split (works_number w) w
-    go (Acceptance.Refused n) q e =
-        let z = refused n e (works_number w) refl in
+    go : (o : Acceptance) → accept_works p r split ≡ o → WorksAccepted p split w o → WorksOutcome p r split (answer_number w) (works_sheets w)
+    go (Err n) q e =
+        let z = refused n e in
         inr (record { refusal = n; is_due = inl ((refused_broken (works_rules p r split) (values_of p r) n).0 q); numbered = z.0; zeros = z.1 })
-    go (Acceptance.Accepted x) q h = lines (first_refused h.answers split.count) refl
+    go (Ok x) q h = lines (first_refused h.answers split.count) refl
       where
-        lines : (v : Verdict) → first_refused h.answers split.count ≡ v → WorksOutcome p r split (works_number w) w
-        lines Verdict.Kept e = inl (works_designed p r split w x q h e)
-        lines (Verdict.Broken k) e =
-            let z = refused k (by_verdict p r split w x q h (Verdict.Broken k) e) (works_number w) refl in
+        lines : (v : Verdict) → first_refused h.answers split.count ≡ v → WorksOutcome p r split (answer_number w) (works_sheets w)
+        lines (Ok u) e = inl (works_designed p r split w x q h e)
+        lines (Err k) e =
+            let z = refused k (by_verdict p r split w x q h (Err k) e) in
             inr (record { refusal = k; is_due = inr ((given p r split w x q h).0, first_line p r split w x q h k e); numbered = z.0; zeros = z.1 })
 
 -- The two columns hold in every line of a works that has its sheets.
@@ -222,17 +226,24 @@ pub line_columns : (line : Plant) (x : Concentrations) (s : Sheet) → LineDesig
 unfolding candidate_of
 line_columns line x s d = two_columns line x (candidate_of s) d.least.allowed
 
-pub works_columns : (p : Plant) (r : Readings) (split : Split) (w : Works) → WorksChosen p r split w → WorksColumns p r split w
-unfolding refused_works works_by
-works_columns p r split w h kept = go (accept_works p r split) refl h
+pub works_columns : (p : Plant) (r : Readings) (split : Split) (w : Result Works Refusal) → WorksChosen p r split w → WorksColumns p r split w
+unfolding works_sheets works_by
+works_columns p r split (Err n) h = tt
+works_columns p r split (Ok w) h = go (accept_works p r split) refl h
   where
-    no_refusal : (n : Refusal) → w ≡ refused_works n → ⊥
-    no_refusal n e = let z : ◌≡◌ {A = ℕ} 0 1 = cc (ap (λ (v : Works). v.verdict) e) in omega arith
+    no_refusal : (n : Refusal) → ◌≡◌ {A = Result Works Refusal} (Ok w) (Err n) → ⊥
+    no_refusal n e = let z : ◌≡◌ {A = ℕ} 0 1 = cc in omega arith
 
-    go : (o : Acceptance) → accept_works p r split ≡ o → WorksAccepted p split w o → (i : ℕ) → i < split.count → Removes (line_of p split i) (values_of p r) (sheet_at w i).fraction
-    go (Acceptance.Refused n) q e i l = absurd (no_refusal n e)
-    go (Acceptance.Accepted x) q h i l = lines (first_refused h.answers split.count) refl
+    go :
+        (o : Acceptance)
+        → accept_works p r split ≡ o
+        → WorksAccepted p split (Ok w) o
+        → (i : ℕ)
+        → i < split.count
+        → Removes (line_of p split i) (values_of p r) (sheet_at w i).fraction
+    go (Err n) q e i l = absurd (no_refusal n e)
+    go (Ok x) q h i l = lines (first_refused h.answers split.count) refl
       where
         lines : (v : Verdict) → first_refused h.answers split.count ≡ v → Removes (line_of p split i) (values_of p r) (sheet_at w i).fraction
-        lines Verdict.Kept e = line_columns (line_of p split i) (values_of p r) (sheet_at w i) (line_designed p r split w x q h e i l)
-        lines (Verdict.Broken k) e = absurd (no_refusal k (by_verdict p r split w x q h (Verdict.Broken k) e))
+        lines (Ok u) e = line_columns (line_of p split i) (values_of p r) (sheet_at w i) (line_designed p r split (Ok w) x q h e i l)
+        lines (Err k) e = absurd (no_refusal k (by_verdict p r split (Ok w) x q h (Err k) e))

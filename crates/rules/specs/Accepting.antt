@@ -1,5 +1,5 @@
 -- Document 01's rules 1 to 4 and document 02's 17 and 14 in their order, and "accepted": none of them is broken. Assumes nothing.
-use Rattle.std.specs.Prelude.{ℕ, not, List, [], ◌∷◌, ◌++◌, leb}
+use Rattle.std.specs.Prelude.{ℕ, not, List, [], ◌∷◌, ◌++◌, leb, Ok, Err}
 use Rattle.rules.specs.Limits.{most_index}
 use Rattle.rules.specs.Rules.{Rule, rule, verdict}
 use Rattle.rules.specs.PlantData.{plant_in_range}
@@ -12,8 +12,8 @@ use Rattle.rules.specs.declared.Reading.{Reading}
 use Rattle.rules.specs.declared.Readings.{Readings}
 use Rattle.rules.specs.declared.Concentrations.{Concentrations}
 use Rattle.rules.specs.declared.Refusal.{Refusal}
-use Rattle.rules.specs.declared.Verdict.{Verdict}
-use Rattle.rules.specs.declared.Acceptance.{Acceptance}
+use Rattle.rules.specs.Results.{Verdict}
+use Rattle.rules.specs.Results.{Acceptance}
 
 -- the readings' values, accepted or not
 unfoldable pub values_of : Plant → Readings → Concentrations
@@ -67,8 +67,8 @@ data_rules p r = rule Refusal.PlantData (plant_in_range p) ∷ rules_after_figur
 
 -- what a verdict on the rules makes of the readings' values
 unfoldable pub accept_by : Verdict → Concentrations → Acceptance
-accept_by Verdict.Kept x = Acceptance.Accepted x
-accept_by (Verdict.Broken n) x = Acceptance.Refused n
+accept_by (Ok u) x = Ok x
+accept_by (Err n) x = Err n
 
 -- document 01's "accepted", with the readings' values, or the first refusal due
 unfoldable pub accept : Plant → Readings → Acceptance

@@ -1,15 +1,10 @@
 -- Document 01, "Numbered answers": the paper's number and values for each case of an answer. Assumes nothing.
-use Rattle.std.specs.Prelude.{ℕ, List, [], ◌∷◌, ◌++◌}
+use Rattle.std.specs.Prelude.{ℕ, List, [], ◌∷◌, ◌++◌, Result, Ok, Err, Option, Some, None}
 use Rattle.rules.specs.declared.Sheet.{Sheet}
 use Rattle.rules.specs.declared.Refusal.{Refusal}
-use Rattle.rules.specs.declared.Verdict.{Verdict}
-use Rattle.rules.specs.declared.Acceptance.{Acceptance}
-use Rattle.rules.specs.declared.Answer.{Answer}
-use Rattle.rules.specs.declared.Written.{Written}
-use Rattle.rules.specs.declared.TargetAnswer.{TargetAnswer}
+use Rattle.rules.specs.Results.{Answer}
 use Rattle.rules.specs.declared.Progress.{Progress}
-use Rattle.rules.specs.declared.BuiltAnswer.{BuiltAnswer}
-use Rattle.rules.specs.declared.PriceAnswer.{PriceAnswer}
+use Rattle.rules.specs.declared.PricedSheet.{PricedSheet}
 
 -- the paper's number of each refusal
 abbrev pub refusal_number : Refusal → ℕ
@@ -57,33 +52,20 @@ empty_sheet =
       transfer = 0;
     }
 
--- the number and the sheet that an answer carries: 0 and the sheet, or the refusal's number and a sheet of zeros
-unfoldable pub answer_number : Answer → ℕ
-answer_number (Answer.Designed s) = 0
-answer_number (Answer.Refused n) = refusal_number n
+-- the number of an answer, whatever its figures are: 0, or the refusal's number
+unfoldable pub answer_number : {A : Type 0} → Result A Refusal → ℕ
+answer_number (Ok a) = 0
+answer_number (Err n) = refusal_number n
 
+-- the sheet that an answer carries: a sheet of zeros where it is refused
 unfoldable pub answer_sheet : Answer → Sheet
-answer_sheet (Answer.Designed s) = s
-answer_sheet (Answer.Refused n) = empty_sheet
+answer_sheet (Ok s) = s
+answer_sheet (Err n) = empty_sheet
 
--- the number and the concentrations that an acceptance carries
-unfoldable pub acceptance_number : Acceptance → ℕ
-acceptance_number (Acceptance.Accepted x) = 0
-acceptance_number (Acceptance.Refused n) = refusal_number n
-
--- the number and the count that writing carries: 0 and the bytes written, or the refusal's number and 0
-unfoldable pub written_number : Written → ℕ
-written_number (Written.Bytes n) = 0
-written_number (Written.Refused r) = refusal_number r
-
-unfoldable pub written_count : Written → ℕ
-written_count (Written.Bytes n) = n
-written_count (Written.Refused r) = 0
-
--- the number of a verdict: 0 where every rule is kept
-unfoldable pub verdict_number : Verdict → ℕ
-verdict_number Verdict.Kept = 0
-verdict_number (Verdict.Broken n) = refusal_number n
+-- the count that writing carries: the bytes written, or 0
+unfoldable pub written_count : Result ℕ Refusal → ℕ
+written_count (Ok n) = n
+written_count (Err r) = 0
 
 -- the figures on a sheet, in the listing's order
 unfoldable pub sheet_figures : Sheet → List ℕ
@@ -105,57 +87,37 @@ sheet_figures s =
     ∷ s.transfer
     ∷ []
 
--- the number and the target that a date is answered with: 0 and the target, 0 and 0 where no term runs, or 14 and 0
-unfoldable pub target_number : TargetAnswer → ℕ
-target_number (TargetAnswer.InForce n) = 0
-target_number TargetAnswer.NoTerm = 0
-target_number (TargetAnswer.Refused n) = refusal_number n
-
-unfoldable pub target_value : TargetAnswer → ℕ
-target_value (TargetAnswer.InForce n) = n
-target_value TargetAnswer.NoTerm = 0
-target_value (TargetAnswer.Refused n) = 0
+-- the target that a date is answered with, and the index of an answer on existing tanks: the smallest that is lost; 0 where there is
+-- none, and where the answer is a refusal
+unfoldable pub value_or_zero : Result (Option ℕ) Refusal → ℕ
+value_or_zero (Ok (Some n)) = n
+value_or_zero (Ok None) = 0
+value_or_zero (Err n) = 0
 
 -- the number and the sheet of an advance's answer: of a refusal its number and zeros; of an unfinished sweep 100, which is no number
 -- of the paper's, and zeros; of a finished one those of its answer
 abbrev pub unfinished_number : ℕ
 unfinished_number = 100
 
-unfoldable pub progress_number : Progress → ℕ
-progress_number (Progress.Refused n) = refusal_number n
-progress_number (Progress.Unfinished b) = unfinished_number
-progress_number (Progress.Finished a) = answer_number a
+unfoldable pub progress_number : Result Progress Refusal → ℕ
+progress_number (Err n) = refusal_number n
+progress_number (Ok (Progress.Unfinished b)) = unfinished_number
+progress_number (Ok (Progress.Finished a)) = answer_number a
 
-unfoldable pub progress_sheet : Progress → Sheet
-progress_sheet (Progress.Refused n) = empty_sheet
-progress_sheet (Progress.Unfinished b) = empty_sheet
-progress_sheet (Progress.Finished a) = answer_sheet a
+unfoldable pub progress_sheet : Result Progress Refusal → Sheet
+progress_sheet (Err n) = empty_sheet
+progress_sheet (Ok (Progress.Unfinished b)) = empty_sheet
+progress_sheet (Ok (Progress.Finished a)) = answer_sheet a
 
--- the number and the index of an answer on existing tanks: 0 and 0 where they hold, 0 and the smallest index lost, or the refusal's
--- number and 0
-unfoldable pub built_number : BuiltAnswer → ℕ
-built_number BuiltAnswer.Held = 0
-built_number (BuiltAnswer.Lost index) = 0
-built_number (BuiltAnswer.Refused n) = refusal_number n
+-- the sheet and the price of a priced answer: zeros where it is refused
+unfoldable pub price_sheet : Result PricedSheet Refusal → Sheet
+price_sheet (Ok s) = s.sheet
+price_sheet (Err n) = empty_sheet
 
-unfoldable pub built_index : BuiltAnswer → ℕ
-built_index BuiltAnswer.Held = 0
-built_index (BuiltAnswer.Lost index) = index
-built_index (BuiltAnswer.Refused n) = 0
-
--- the number, the sheet and the price of a priced answer: 0, the sheet and its price, or the refusal's number, a sheet of zeros and 0
-unfoldable pub price_number : PriceAnswer → ℕ
-price_number (PriceAnswer.Priced s) = 0
-price_number (PriceAnswer.Refused n) = refusal_number n
-
-unfoldable pub price_sheet : PriceAnswer → Sheet
-price_sheet (PriceAnswer.Priced s) = s.sheet
-price_sheet (PriceAnswer.Refused n) = empty_sheet
-
-unfoldable pub price_value : PriceAnswer → ℕ
-price_value (PriceAnswer.Priced s) = s.price
-price_value (PriceAnswer.Refused n) = 0
+unfoldable pub price_value : Result PricedSheet Refusal → ℕ
+price_value (Ok s) = s.price
+price_value (Err n) = 0
 
 -- the figures of a priced answer: those of the sheet in the listing's order, then the price
-abbrev pub price_figures : PriceAnswer → List ℕ
+abbrev pub price_figures : Result PricedSheet Refusal → List ℕ
 price_figures a = sheet_figures (price_sheet a) ++ (price_value a ∷ [])

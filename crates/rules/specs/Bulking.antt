@@ -1,22 +1,19 @@
 -- Document 02, item 5, against what was before it: the steps that know no bulking sludge, and what a plant with such a sludge is
 -- answered. Assumes nothing.
-use Rattle.std.specs.Prelude.{◌↔◌, ◌≡◌, List, [], ◌∷◌, ◌++◌}
+use Rattle.std.specs.Prelude.{◌↔◌, ◌≡◌, List, [], ◌∷◌, ◌++◌, Err}
 use Rattle.rules.specs.Rules.{Rule, rule}
-use Rattle.rules.specs.Sums.{values_from}
 use Rattle.rules.specs.PlantData.{plant_in_range}
 use Rattle.rules.specs.Accepting.{readings_rules, terms_rule, accept}
 use Rattle.rules.specs.Examining.{candidate_rules, sheet_of, examine}
 use Rattle.rules.specs.Choosing.{Chosen}
 use Rattle.rules.specs.Explaining.{explain_accepted, explain}
-use Rattle.rules.specs.Census.{answer_numbers, census_accepted, census}
+use Rattle.rules.specs.Census.{census_accepted, census}
 use Rattle.rules.specs.OtherSteps.{Calculation, accept_with, SameAnswers}
 use Rattle.rules.specs.declared.Plant.{Plant}
 use Rattle.rules.specs.declared.Readings.{Readings}
 use Rattle.rules.specs.declared.Candidate.{Candidate}
 use Rattle.rules.specs.declared.Refusal.{Refusal}
-use Rattle.rules.specs.declared.Acceptance.{Acceptance}
-use Rattle.rules.specs.declared.Answer.{Answer}
-use Rattle.rules.specs.declared.Explanation.{Explanation}
+use Rattle.rules.specs.Results.{Answer}
 
 -- 1; then 2 and 3 of each reading in turn; then 4; then 14
 unfoldable pub data_rules_without_bulking : Plant → Readings → List Rule
@@ -33,8 +30,8 @@ pub record SameWithoutBulking (p : Plant) : Type 0 where
 
 -- This plant gets 17 from every call, whatever its readings and the candidate.
 pub record BulkingRefused (p : Plant) : Type 0 where
-  pub acceptance : (r : Readings) → accept p r ≡ Acceptance.Refused Refusal.Bulking
-  pub examined : (r : Readings) (y : Candidate) → examine p r y ≡ Answer.Refused Refusal.Bulking
-  pub chosen : (r : Readings) (a : Answer) → Chosen p r a ↔ (a ≡ Answer.Refused Refusal.Bulking)
-  pub explained : (r : Readings) (y : Candidate) → explain p r y ≡ Explanation.Refused Refusal.Bulking
-  pub counted : (r : Readings) → census p r ≡ record { number = 17; counts = values_from 0 answer_numbers (λ k. 0) }
+  pub acceptance : (r : Readings) → accept p r ≡ Err Refusal.Bulking
+  pub examined : (r : Readings) (y : Candidate) → examine p r y ≡ Err Refusal.Bulking
+  pub chosen : (r : Readings) (a : Answer) → Chosen p r a ↔ (a ≡ Err Refusal.Bulking)
+  pub explained : (r : Readings) (y : Candidate) → explain p r y ≡ Err Refusal.Bulking
+  pub counted : (r : Readings) → census p r ≡ Err Refusal.Bulking

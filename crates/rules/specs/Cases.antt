@@ -10,7 +10,7 @@ use Rattle.rules.specs.AgeNitrate.{growth, decay, safety_factor, aerobic_age, sl
 use Rattle.rules.specs.ReactorSteps.{reactor_of}
 use Rattle.rules.specs.SettlingSteps.{thickening_root, settling_of}
 use Rattle.rules.specs.Examining.{examine}
-use Rattle.rules.specs.Answers.{answer_number, acceptance_number}
+use Rattle.rules.specs.Answers.{answer_number}
 use Rattle.rules.specs.Listing.{text, listing}
 use Rattle.rules.specs.declared.Plant.{Plant}
 use Rattle.rules.specs.declared.Process.{Process}
@@ -124,5 +124,5 @@ pub record Cases : Type 0 where
       answer_number (examine hopper_plant readings_a (candidate 300 91 20)) ≡ 8
   pub case_8_refusal :
       answer_number (examine hopper_plant readings_a (candidate 300 92 20)) ≡ 8
-  pub case_9_passes : acceptance_number (accept case_a (readings_with (f32 440 1))) ≡ 0
-  pub case_9_refusal : acceptance_number (accept case_a (readings_with (f32 4_401 10))) ≡ 4
+  pub case_9_passes : answer_number (accept case_a (readings_with (f32 440 1))) ≡ 0
+  pub case_9_refusal : answer_number (accept case_a (readings_with (f32 4_401 10))) ≡ 4

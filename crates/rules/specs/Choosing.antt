@@ -1,6 +1,6 @@
 -- Demand 3: what it means that an answer is the one chosen. It speaks of the steps and of `permitted`, never of a
 -- search, and is stated over any set of candidates; choosing takes the whole grid. Assumes nothing.
-use Rattle.std.specs.Prelude.{ℕ, ◌≤◌, ◌≡◌, T}
+use Rattle.std.specs.Prelude.{ℕ, ◌≤◌, ◌≡◌, T, Ok, Err}
 use Rattle.rules.specs.Accepting.{accept}
 use Rattle.rules.specs.AgeNitrate.{on_grid}
 use Rattle.rules.specs.ReactorSteps.{reactor_of}
@@ -12,8 +12,8 @@ use Rattle.rules.specs.declared.Concentrations.{Concentrations}
 use Rattle.rules.specs.declared.Candidate.{Candidate}
 use Rattle.rules.specs.declared.Sheet.{Sheet}
 use Rattle.rules.specs.declared.Refusal.{Refusal}
-use Rattle.rules.specs.declared.Acceptance.{Acceptance}
-use Rattle.rules.specs.declared.Answer.{Answer}
+use Rattle.rules.specs.Results.{Acceptance}
+use Rattle.rules.specs.Results.{Answer}
 
 -- a set of candidates
 abbrev pub Candidates : Type 1
@@ -55,13 +55,13 @@ pub record Least (p : Plant) (x : Concentrations) (among : Candidates) (s : Shee
 -- An answer is the one chosen among a set of candidates of accepted data: the least design, or 5 and nothing in the set
 -- is permitted.
 abbrev pub ChosenAmong : Plant → Concentrations → Candidates → Answer → Type 0
-ChosenAmong p x among (Answer.Designed s) = Least p x among s
-ChosenAmong p x among (Answer.Refused n) = (n ≡ Refusal.NoDesign) × ((y : Candidate) → among y → T (permitted p x y) → ⊥)
+ChosenAmong p x among (Ok s) = Least p x among s
+ChosenAmong p x among (Err n) = (n ≡ Refusal.NoDesign) × ((y : Candidate) → among y → T (permitted p x y) → ⊥)
 
 -- the same once plant data and readings have their answer: a refusal of them stands
 abbrev pub ChosenAccepted : Plant → Answer → Acceptance → Type 0
-ChosenAccepted p a (Acceptance.Refused n) = a ≡ Answer.Refused n
-ChosenAccepted p a (Acceptance.Accepted x) = ChosenAmong p x (grid p) a
+ChosenAccepted p a (Err n) = a ≡ Err n
+ChosenAccepted p a (Ok x) = ChosenAmong p x (grid p) a
 
 -- demand 3, whole: the answer is the one chosen for the plant data and readings
 abbrev pub Chosen : Plant → Readings → Answer → Type 0

@@ -1,13 +1,12 @@
 -- Document 02, item 4, the terms of the consent: days and their order, the terms' ranges, and the lowest target in force on
 -- a day. Assumes nothing.
-use Rattle.std.specs.Prelude.{ℕ, min, Bool, true, cond, ◌&&◌, ◌||◌, List, [], ◌∷◌, leb, ltb, eqb, take}
+use Rattle.std.specs.Prelude.{ℕ, min, Bool, true, cond, ◌&&◌, ◌||◌, List, [], ◌∷◌, leb, ltb, eqb, take, Result, Ok, Err, Option, Some, None}
 use Rattle.rules.specs.PlantData.{within}
 use Rattle.rules.specs.Limits.{least_term_temperature, most_temperature, least_nitrate_target, most_nitrate_target, most_terms}
 use Rattle.rules.specs.declared.Date.{Date}
 use Rattle.rules.specs.declared.Term.{Term}
 use Rattle.rules.specs.declared.Consent.{Consent}
 use Rattle.rules.specs.declared.Refusal.{Refusal}
-use Rattle.rules.specs.declared.TargetAnswer.{TargetAnswer}
 
 -- the days of a month; 29 February is one
 unfoldable pub days_of : ℕ → ℕ
@@ -37,7 +36,7 @@ term_valid term =
 
 -- the terms: entries past the count are not looked at
 abbrev pub terms_of : Consent → List Term
-terms_of c = take c.count (c.first ∷ c.second ∷ c.third ∷ c.fourth ∷ [])
+terms_of c = take c.count c.terms
 
 -- a consent without terms
 abbrev pub no_term : Term
@@ -50,7 +49,7 @@ no_term =
     }
 
 abbrev pub no_terms : Consent
-no_terms = record { count = 0; first = no_term; second = no_term; third = no_term; fourth = no_term }
+no_terms = record { count = 0; terms = no_term ∷ no_term ∷ no_term ∷ no_term ∷ [] }
 
 -- every term passes a test
 abbrev pub every : (Term → Bool) → List Term → Bool
@@ -62,16 +61,16 @@ unfoldable pub consent_valid : Consent → Bool
 consent_valid c = leb c.count most_terms && every term_valid (terms_of c)
 
 -- the lower of a target and of what the other terms have in force
-abbrev pub lower_of : ℕ → TargetAnswer → TargetAnswer
-lower_of target (TargetAnswer.InForce n) = TargetAnswer.InForce (min target n)
-lower_of target TargetAnswer.NoTerm = TargetAnswer.InForce target
-lower_of target (TargetAnswer.Refused n) = TargetAnswer.Refused n
+abbrev pub lower_of : ℕ → Result (Option ℕ) Refusal → Result (Option ℕ) Refusal
+lower_of target (Ok (Some n)) = Ok (Some (min target n))
+lower_of target (Ok None) = Ok (Some target)
+lower_of target (Err n) = Err n
 
 -- the lowest target in force on a day, or that no term runs
-abbrev pub lowest_target : Date → List Term → TargetAnswer
-lowest_target d [] = TargetAnswer.NoTerm
+abbrev pub lowest_target : Date → List Term → Result (Option ℕ) Refusal
+lowest_target d [] = (Ok None)
 lowest_target d (term ∷ later) = cond (in_force term d) (lower_of term.nitrate_target (lowest_target d later)) (lowest_target d later)
 
 -- what the second call answers for any terms and date: 14 where they or the date are invalid
-unfoldable pub target_on : Consent → Date → TargetAnswer
-target_on c d = cond (consent_valid c && date_valid d) (lowest_target d (terms_of c)) (TargetAnswer.Refused Refusal.Terms)
+unfoldable pub target_on : Consent → Date → Result (Option ℕ) Refusal
+target_on c d = cond (consent_valid c && date_valid d) (lowest_target d (terms_of c)) (Err Refusal.Terms)

@@ -1,7 +1,7 @@
 -- The day log and its highest load over 14 consecutive days, with the refusals 12 and 13. The log is a day count n in 32
 -- bits, then n flows in m3/d, then n BOD values in mg/l, each an f32, all with the lowest byte first. Days are counted
 -- from 1. Assumes nothing.
-use Rattle.std.specs.Prelude.{ℕ, zero, suc, ◌+◌, ◌-◌, ◌*◌, Bool, true, cond, not, ◌&&◌, List, [], ◌∷◌, leb, ltb, eqb, Float, length}
+use Rattle.std.specs.Prelude.{ℕ, zero, suc, ◌+◌, ◌-◌, ◌*◌, Bool, true, cond, not, ◌&&◌, List, [], ◌∷◌, leb, ltb, eqb, Float, length, Result, Ok, Err}
 use Rattle.std.specs.Float.{binary32}
 use Rattle.std.specs.Float.Ieee.{of_bits}
 use Rattle.words.specs.Bytes.{word}
@@ -9,12 +9,10 @@ use Rattle.rules.specs.Sums.{sum_from}
 use Rattle.rules.specs.PlantData.{within}
 use Rattle.rules.specs.LabReadings.{no_number, thousandths}
 use Rattle.rules.specs.Rules.{Rule, rule, verdict}
-use Rattle.rules.specs.Answers.{refusal_number}
 use Rattle.rules.specs.declared.Refusal.{Refusal}
-use Rattle.rules.specs.declared.Verdict.{Verdict}
+use Rattle.rules.specs.Results.{Verdict}
 use Rattle.rules.specs.declared.Day.{Day}
 use Rattle.rules.specs.declared.TwoWeekLoad.{TwoWeekLoad}
-use Rattle.rules.specs.declared.LoadAnswer.{LoadAnswer}
 
 -- ---- the log
 
@@ -78,22 +76,18 @@ windows log = day_count log - 13
 unfoldable pub log_rules : List ℕ → List Rule
 log_rules log = rule Refusal.DayLog (log_whole log) ∷ rule Refusal.DayValue (days_kept log (day_count log)) ∷ []
 
-unfoldable pub load_by : Verdict → TwoWeekLoad → LoadAnswer
-load_by Verdict.Kept load = LoadAnswer.Load load
-load_by (Verdict.Broken n) load = LoadAnswer.Refused n
+unfoldable pub load_by : Verdict → TwoWeekLoad → Result TwoWeekLoad Refusal
+load_by (Ok u) load = Ok load
+load_by (Err n) load = Err n
 
 -- the highest two-week load of any bytes, or the first refusal due
-unfoldable pub two_week_load : List ℕ → LoadAnswer
+unfoldable pub two_week_load : List ℕ → Result TwoWeekLoad Refusal
 two_week_load log = load_by (verdict (log_rules log)) (highest_of (window_load log) (windows log))
 
--- the number and the load that an answer carries: 0 and the load, or the refusal's number, sum 0 and day 0
-unfoldable pub load_number : LoadAnswer → ℕ
-load_number (LoadAnswer.Load load) = 0
-load_number (LoadAnswer.Refused n) = refusal_number n
-
-unfoldable pub load_of : LoadAnswer → TwoWeekLoad
-load_of (LoadAnswer.Load load) = load
-load_of (LoadAnswer.Refused n) = record { sum = 0; day = 0 }
+-- the load that an answer carries: sum 0 and day 0 where it is refused
+unfoldable pub load_of : Result TwoWeekLoad Refusal → TwoWeekLoad
+load_of (Ok load) = load
+load_of (Err n) = record { sum = 0; day = 0 }
 
 -- a load's figures in their order
 abbrev pub load_figures : TwoWeekLoad → List ℕ

@@ -1,6 +1,6 @@
 -- Document 01, examining: the sheet of a candidate, the rules 6 to 10 and document 02's 15 and 16 in their order, "permitted",
 -- and what examining answers. Assumes nothing.
-use Rattle.std.specs.Prelude.{ℕ, ◌+◌, Bool, List, [], ◌∷◌, ◌++◌, leb}
+use Rattle.std.specs.Prelude.{ℕ, ◌+◌, Bool, List, [], ◌∷◌, ◌++◌, leb, Ok, Err}
 use Rattle.rules.specs.Rules.{Rule, rule, all_kept, verdict}
 use Rattle.rules.specs.Accepting.{accept, data_rules, values_of}
 use Rattle.rules.specs.AgeNitrate.{on_grid, covered}
@@ -18,9 +18,9 @@ use Rattle.rules.specs.declared.Settling.{Settling}
 use Rattle.rules.specs.declared.Aeration.{Aeration}
 use Rattle.rules.specs.declared.Sheet.{Sheet}
 use Rattle.rules.specs.declared.Refusal.{Refusal}
-use Rattle.rules.specs.declared.Verdict.{Verdict}
-use Rattle.rules.specs.declared.Acceptance.{Acceptance}
-use Rattle.rules.specs.declared.Answer.{Answer}
+use Rattle.rules.specs.Results.{Verdict}
+use Rattle.rules.specs.Results.{Acceptance}
+use Rattle.rules.specs.Results.{Answer}
 
 -- total, m3: reactor and settling volume
 unfoldable pub total_of : Plant → Reactor → Settling → ℕ
@@ -86,8 +86,8 @@ permitted p x y = all_kept (candidate_rules p x y)
 
 -- what a verdict on the rules makes of a sheet
 unfoldable pub answer_by : Verdict → Sheet → Answer
-answer_by Verdict.Kept s = Answer.Designed s
-answer_by (Verdict.Broken n) s = Answer.Refused n
+answer_by (Ok u) s = Ok s
+answer_by (Err n) s = Err n
 
 -- a candidate of accepted data: the refusal of the first of these rules that it breaks, else its sheet
 unfoldable pub judge : Plant → Concentrations → Candidate → Answer
@@ -95,8 +95,8 @@ judge p x y = answer_by (verdict (candidate_rules p x y)) (sheet_of p x y)
 
 -- what examining goes on to, once plant data and readings have their answer
 unfoldable pub judge_accepted : Plant → Candidate → Acceptance → Answer
-judge_accepted p y (Acceptance.Refused n) = Answer.Refused n
-judge_accepted p y (Acceptance.Accepted x) = judge p x y
+judge_accepted p y (Err n) = Err n
+judge_accepted p y (Ok x) = judge p x y
 
 -- what examining answers
 unfoldable pub examine : Plant → Readings → Candidate → Answer

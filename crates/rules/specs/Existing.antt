@@ -1,6 +1,6 @@
 -- Document 02, item 10: existing tanks against a moody sludge. The sludge picks an index of a span, then the operator a return ratio
 -- of the grid. No search stands here. Assumes nothing.
-use Rattle.std.specs.Prelude.{ℕ, ◌≤◌, ◌<◌, ◌≡◌, Bool, ◌&&◌, List, [], ◌∷◌, ◌++◌, T, leb}
+use Rattle.std.specs.Prelude.{ℕ, ◌≤◌, ◌<◌, ◌≡◌, Bool, ◌&&◌, List, [], ◌∷◌, ◌++◌, T, leb, Result, Ok, Err, Option, Some, None}
 use Rattle.rules.specs.Limits.{least_index, most_index, least_fraction, most_fraction, least_time, most_time}
 use Rattle.rules.specs.Rules.{Rule, rule, verdict}
 use Rattle.rules.specs.PlantData.{within}
@@ -15,8 +15,7 @@ use Rattle.rules.specs.declared.Sheet.{Sheet}
 use Rattle.rules.specs.declared.Existing.{Existing}
 use Rattle.rules.specs.declared.IndexSpan.{IndexSpan}
 use Rattle.rules.specs.declared.Refusal.{Refusal}
-use Rattle.rules.specs.declared.Acceptance.{Acceptance}
-use Rattle.rules.specs.declared.BuiltAnswer.{BuiltAnswer}
+use Rattle.rules.specs.Results.{Acceptance}
 
 -- the candidate that existing tanks are operated as, with a return ratio
 abbrev pub operated : Existing → ℕ → Candidate
@@ -72,16 +71,16 @@ unfoldable pub accept_built : Plant → Readings → Existing → IndexSpan → 
 accept_built p r e span = accept_by (verdict (built_rules p r e span)) (values_of p r)
 
 -- what is answered where no rule is broken: held and each index can be won, or the smallest index that cannot
-abbrev pub HeldOrLost : Plant → Concentrations → Existing → IndexSpan → BuiltAnswer → Type 0
-HeldOrLost p x e span BuiltAnswer.Held = HoldsAtEach p x e span
-HeldOrLost p x e span (BuiltAnswer.Lost index) = SmallestLost p x e span index
-HeldOrLost p x e span (BuiltAnswer.Refused n) = ⊥
+abbrev pub HeldOrLost : Plant → Concentrations → Existing → IndexSpan → Result (Option ℕ) Refusal → Type 0
+HeldOrLost p x e span (Ok None) = HoldsAtEach p x e span
+HeldOrLost p x e span (Ok (Some index)) = SmallestLost p x e span index
+HeldOrLost p x e span (Err n) = ⊥
 
 -- the same once the rules have their answer: a refusal stands
-abbrev pub BuiltAccepted : Plant → Existing → IndexSpan → BuiltAnswer → Acceptance → Type 0
-BuiltAccepted p e span a (Acceptance.Refused n) = a ≡ BuiltAnswer.Refused n
-BuiltAccepted p e span a (Acceptance.Accepted x) = HeldOrLost p x e span a
+abbrev pub BuiltAccepted : Plant → Existing → IndexSpan → Result (Option ℕ) Refusal → Acceptance → Type 0
+BuiltAccepted p e span a (Err n) = a ≡ Err n
+BuiltAccepted p e span a (Ok x) = HeldOrLost p x e span a
 
 -- what existing tanks are answered with, for any plant data, readings, tanks and span
-abbrev pub BuiltAnswered : Plant → Readings → Existing → IndexSpan → BuiltAnswer → Type 0
+abbrev pub BuiltAnswered : Plant → Readings → Existing → IndexSpan → Result (Option ℕ) Refusal → Type 0
 BuiltAnswered p r e span a = BuiltAccepted p e span a (accept_built p r e span)

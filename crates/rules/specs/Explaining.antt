@@ -1,7 +1,7 @@
 -- What explains a candidate of accepted data that is on the grid, permitted or not: the two nitrate columns, here and in each
 -- term of the consent, the figures that the rules 8 to 10 ask of, and the first rule that is broken. On the grid V is below
 -- 1,000, so A and H always stand there. Assumes nothing.
-use Rattle.std.specs.Prelude.{ℕ, cond, List, [], ◌∷◌, ◌++◌, leb}
+use Rattle.std.specs.Prelude.{ℕ, cond, List, [], ◌∷◌, ◌++◌, leb, Result, Ok, Err, get_or}
 use Rattle.rules.specs.Rules.{Rule, verdict}
 use Rattle.rules.specs.Accepting.{accept, data_rules}
 use Rattle.rules.specs.AgeNitrate.{on_grid, removed_by_bod, removable}
@@ -20,8 +20,10 @@ use Rattle.rules.specs.declared.Term.{Term}
 use Rattle.rules.specs.declared.TermExplained.{TermExplained}
 use Rattle.rules.specs.declared.Explained.{Explained}
 use Rattle.rules.specs.declared.Refusal.{Refusal}
-use Rattle.rules.specs.declared.Acceptance.{Acceptance}
-use Rattle.rules.specs.declared.Explanation.{Explanation}
+use Rattle.rules.specs.Results.{Acceptance}
+use Rattle.rules.specs.Sums.{values_from}
+use Rattle.rules.specs.Limits.{most_terms}
+use Rattle.rules.specs.Consent.{no_term}
 
 -- the explaining figures of a reactor in a term: what the rules 15 and 16 ask of
 unfoldable pub term_explained : Plant → Concentrations → Reactor → Term → TermExplained
@@ -35,8 +37,8 @@ term_explained p x reactor term =
     }
 
 -- the same of the consent's entry i, or zeros past the count
-unfoldable pub term_at : Plant → Concentrations → Reactor → ℕ → Term → TermExplained
-term_at p x reactor i term = cond (leb p.consent.count i) no_term_explained (term_explained p x reactor term)
+unfoldable pub term_at : Plant → Concentrations → Reactor → ℕ → TermExplained
+term_at p x reactor i = cond (leb p.consent.count i) no_term_explained (term_explained p x reactor (get_or p.consent.terms i no_term))
 
 -- the explaining figures of a reactor and a settling tank, and the verdict on them
 unfoldable pub explained_by : Plant → Concentrations → Reactor → Settling → Explained
@@ -51,10 +53,7 @@ explained_by p x reactor settling =
       surface = settling.surface;
       depth = settling.depth;
       verdict = verdict (fraction_rules p x reactor ++ tank_rules p settling);
-      first = term_at p x reactor 0 p.consent.first;
-      second = term_at p x reactor 1 p.consent.second;
-      third = term_at p x reactor 2 p.consent.third;
-      fourth = term_at p x reactor 3 p.consent.fourth;
+      terms = values_from 0 most_terms (term_at p x reactor);
     }
 
 -- the same of a candidate
@@ -62,16 +61,16 @@ unfoldable pub candidate_explained : Plant → Concentrations → Candidate → 
 candidate_explained p x y = explained_by p x (reactor_of p x y.fraction) (settling_of p y.return_ratio y.thickening)
 
 -- a candidate of accepted data: 6, else its figures
-unfoldable pub explain_candidate : Plant → Concentrations → Candidate → Explanation
+unfoldable pub explain_candidate : Plant → Concentrations → Candidate → Result Explained Refusal
 explain_candidate p x y =
-    cond (on_grid p.tank y) (Explanation.Figures (candidate_explained p x y)) (Explanation.Refused Refusal.OffGrid)
+    cond (on_grid p.tank y) (Ok (candidate_explained p x y)) (Err Refusal.OffGrid)
 
-unfoldable pub explain_accepted : Plant → Candidate → Acceptance → Explanation
-explain_accepted p y (Acceptance.Refused n) = Explanation.Refused n
-explain_accepted p y (Acceptance.Accepted x) = explain_candidate p x y
+unfoldable pub explain_accepted : Plant → Candidate → Acceptance → Result Explained Refusal
+explain_accepted p y (Err n) = Err n
+explain_accepted p y (Ok x) = explain_candidate p x y
 
 -- what explaining answers
-unfoldable pub explain : Plant → Readings → Candidate → Explanation
+unfoldable pub explain : Plant → Readings → Candidate → Result Explained Refusal
 explain p r y = explain_accepted p y (accept p r)
 
 -- the rules that explaining goes through: those of the data, then 6

@@ -1,23 +1,21 @@
 -- The number and the figures of an explanation, in their order. Assumes nothing.
-use Rattle.std.specs.Prelude.{ℕ, List, [], ◌∷◌, ◌++◌}
-use Rattle.rules.specs.Answers.{refusal_number, verdict_number}
-use Rattle.rules.specs.declared.Verdict.{Verdict}
+use Rattle.std.specs.Prelude.{ℕ, List, [], ◌∷◌, Result, Ok, Err}
+use Rattle.rules.specs.Answers.{answer_number}
 use Rattle.rules.specs.declared.TermExplained.{TermExplained}
 use Rattle.rules.specs.declared.Explained.{Explained}
-use Rattle.rules.specs.declared.Explanation.{Explanation}
+use Rattle.rules.specs.declared.Refusal.{Refusal}
+use Rattle.rules.specs.Sums.{values_from}
+use Rattle.rules.specs.Limits.{most_terms}
+use Rattle.words.specs.Bytes.{chunked}
 
 -- where no term stands
 abbrev pub no_term_explained : TermExplained
 no_term_explained = record { aerobic_share = 0; fraction = 0; denitrified = 0; removed_by_bod = 0; removable = 0 }
 
--- the number and the figures that an explanation carries: 0 and the figures, or the refusal's number and zeros
-unfoldable pub explanation_number : Explanation → ℕ
-explanation_number (Explanation.Figures e) = 0
-explanation_number (Explanation.Refused n) = refusal_number n
-
-unfoldable pub explanation_figures : Explanation → Explained
-explanation_figures (Explanation.Figures e) = e
-explanation_figures (Explanation.Refused n) =
+-- the figures that an explanation carries: zeros where it is refused
+unfoldable pub explanation_figures : Result Explained Refusal → Explained
+explanation_figures (Ok e) = e
+explanation_figures (Err n) =
     record {
       denitrified = 0;
       removed_by_bod = 0;
@@ -27,11 +25,8 @@ explanation_figures (Explanation.Refused n) =
       sludge_volume = 0;
       surface = 0;
       depth = 0;
-      verdict = Verdict.Kept;
-      first = no_term_explained;
-      second = no_term_explained;
-      third = no_term_explained;
-      fourth = no_term_explained;
+      verdict = (Ok tt);
+      terms = values_from 0 most_terms (λ i. no_term_explained);
     }
 
 -- the figures of a term
@@ -50,5 +45,5 @@ explained_figures e =
     ∷ e.sludge_volume
     ∷ e.surface
     ∷ e.depth
-    ∷ verdict_number e.verdict
-    ∷ (term_figures e.first ++ (term_figures e.second ++ (term_figures e.third ++ term_figures e.fourth)))
+    ∷ answer_number e.verdict
+    ∷ chunked term_figures e.terms

@@ -8,9 +8,11 @@
 pub mod Rounding
 pub mod Limits
 pub mod Sums
+pub mod Kinds
 pub mod PlantData
 pub mod Consent
 pub mod LabReadings
+pub mod Results
 pub mod Rules
 pub mod Accepting
 pub mod CodBalance

@@ -1,6 +1,6 @@
 -- Document 02, item 8: the lines of a works. Each is a plant of its own, with its parts of the works' flows and site, chosen for over
 -- the works' concentrations. Lines are counted from 0 here, from 1 in what a caller asks. Assumes nothing.
-use Rattle.std.specs.Prelude.{ℕ, zero, suc, ◌+◌, ◌-◌, ◌*◌, ◌≡◌, Bool, true, false, ◌&&◌, List, ◌∷◌, leb, eqb, get_or}
+use Rattle.std.specs.Prelude.{ℕ, zero, suc, ◌+◌, ◌-◌, ◌*◌, ◌≡◌, Bool, true, false, ◌&&◌, List, ◌∷◌, leb, eqb, get_or, Ok, Err}
 use Rattle.rules.specs.Rounding.{down}
 use Rattle.rules.specs.Sums.{sum_from}
 use Rattle.rules.specs.Limits.{most_lines}
@@ -14,8 +14,8 @@ use Rattle.rules.specs.declared.Readings.{Readings}
 use Rattle.rules.specs.declared.Concentrations.{Concentrations}
 use Rattle.rules.specs.declared.Split.{Split}
 use Rattle.rules.specs.declared.Refusal.{Refusal}
-use Rattle.rules.specs.declared.Acceptance.{Acceptance}
-use Rattle.rules.specs.declared.Answer.{Answer}
+use Rattle.rules.specs.Results.{Acceptance}
+use Rattle.rules.specs.Results.{Answer}
 
 -- the share of line i, thousandths
 abbrev pub share : Split → ℕ → ℕ
@@ -56,7 +56,7 @@ line_positive line = leb 1 line.flow && (leb 1 line.wet_weather_flow && leb 1 li
 -- grid, a sheet or 5.
 abbrev pub LineChosenBy : Bool → Plant → Concentrations → Answer → Type 0
 LineChosenBy true line x a = ChosenAmong line x (grid line) a
-LineChosenBy false line x a = a ≡ Answer.Refused Refusal.PlantData
+LineChosenBy false line x a = a ≡ Err Refusal.PlantData
 
 abbrev pub LineChosen : Plant → Concentrations → Answer → Type 0
 LineChosen line x a = LineChosenBy (line_positive line) line x a
@@ -70,8 +70,8 @@ unfoldable pub accept_line : Plant → Readings → Split → ℕ → Acceptance
 accept_line p r split number = accept_by (verdict (line_rules p r split number)) (values_of p r)
 
 abbrev pub LineAccepted : Plant → Answer → Acceptance → Type 0
-LineAccepted line a (Acceptance.Refused n) = a ≡ Answer.Refused n
-LineAccepted line a (Acceptance.Accepted x) = LineChosen line x a
+LineAccepted line a (Err n) = a ≡ Err n
+LineAccepted line a (Ok x) = LineChosen line x a
 
 abbrev pub LineAnswered : Plant → Readings → Split → ℕ → Answer → Type 0
 LineAnswered p r split number a = LineAccepted (line_of p split (number - 1)) a (accept_line p r split number)

@@ -1,12 +1,11 @@
 -- Document 01, the listing: an answer's bytes, and what writing them on a lent page gives. Assumes nothing.
-use Rattle.std.specs.Prelude.{ℕ, zero, suc, ◌+◌, ◌/◌, ◌%◌, true, false, cond, List, [], ◌∷◌, ◌++◌, leb, length, drop}
+use Rattle.std.specs.Prelude.{ℕ, zero, suc, ◌+◌, ◌/◌, ◌%◌, true, false, cond, List, [], ◌∷◌, ◌++◌, leb, length, drop, Result, Ok, Err}
 use Prim.Native.Char.{code}
 use Prim.Native.String.{String}
 use Rattle.rules.specs.Answers.{refusal_number}
 use Rattle.rules.specs.declared.Sheet.{Sheet}
 use Rattle.rules.specs.declared.Refusal.{Refusal}
-use Rattle.rules.specs.declared.Answer.{Answer}
-use Rattle.rules.specs.declared.Written.{Written}
+use Rattle.rules.specs.Results.{Answer}
 
 -- the bytes of a text of ASCII characters
 unfoldable pub text : String → List ℕ
@@ -47,12 +46,12 @@ sheet_listing s =
 
 -- the listing of a sheet, or of a refusal
 unfoldable pub listing : Answer → List ℕ
-listing (Answer.Designed s) = sheet_listing s
-listing (Answer.Refused n) = line "refused" (refusal_number n)
+listing (Ok s) = sheet_listing s
+listing (Err n) = line "refused" (refusal_number n)
 
 -- what writing gives: the number of bytes, or 11 where the listing is longer than the page
-unfoldable pub writing : List ℕ → List ℕ → Written
-writing bytes page = cond (leb (length bytes) (length page)) (Written.Bytes (length bytes)) (Written.Refused Refusal.ShortPage)
+unfoldable pub writing : List ℕ → List ℕ → Result ℕ Refusal
+writing bytes page = cond (leb (length bytes) (length page)) (Ok (length bytes)) (Err Refusal.ShortPage)
 
 -- the page afterwards: the listing and then the page's own later bytes, or the page as it was
 unfoldable pub page_after : List ℕ → List ℕ → List ℕ

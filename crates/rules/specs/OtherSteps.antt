@@ -1,6 +1,6 @@
 -- Examining and demand 3 over other steps than the ones that hold now, so that what a request left as it was can be said against
 -- the steps before it. Assumes nothing.
-use Rattle.std.specs.Prelude.{ℕ, ◌↔◌, ◌≡◌, Bool, List, ◌++◌, T}
+use Rattle.std.specs.Prelude.{ℕ, ◌↔◌, ◌≡◌, Bool, List, ◌++◌, T, Ok, Err}
 use Rattle.rules.specs.Rules.{Rule, all_kept, verdict}
 use Rattle.rules.specs.Accepting.{values_of, accept_by, accept}
 use Rattle.rules.specs.Examining.{sheet_of, permitted, answer_by, examine}
@@ -13,8 +13,8 @@ use Rattle.rules.specs.declared.Concentrations.{Concentrations}
 use Rattle.rules.specs.declared.Candidate.{Candidate}
 use Rattle.rules.specs.declared.Sheet.{Sheet}
 use Rattle.rules.specs.declared.Refusal.{Refusal}
-use Rattle.rules.specs.declared.Acceptance.{Acceptance}
-use Rattle.rules.specs.declared.Answer.{Answer}
+use Rattle.rules.specs.Results.{Acceptance}
+use Rattle.rules.specs.Results.{Answer}
 
 -- a plant with another daily flow, wet weather flow and site surface, and another sludge volume index, dose, consent and way
 abbrev pub altered_plant : ℕ → ℕ → ℕ → ℕ → ℕ → Consent → Way → Plant → Plant
@@ -75,9 +75,9 @@ pub record LeastWith (s : Calculation) (p : Plant) (x : Concentrations) (sheet :
   pub rivals : (y : Candidate) → grid p y → T (permitted_with s p x y) → NotBeforeBy (total_with s p x) (candidate_of sheet) y
 
 abbrev pub ChosenAcceptedWith : Calculation → Plant → Answer → Acceptance → Type 0
-ChosenAcceptedWith s p a (Acceptance.Refused n) = a ≡ Answer.Refused n
-ChosenAcceptedWith s p (Answer.Designed sheet) (Acceptance.Accepted x) = LeastWith s p x sheet
-ChosenAcceptedWith s p (Answer.Refused n) (Acceptance.Accepted x) =
+ChosenAcceptedWith s p a (Err n) = a ≡ Err n
+ChosenAcceptedWith s p (Ok sheet) (Ok x) = LeastWith s p x sheet
+ChosenAcceptedWith s p (Err n) (Ok x) =
     (n ≡ Refusal.NoDesign) × ((y : Candidate) → grid p y → T (permitted_with s p x y) → ⊥)
 
 abbrev pub ChosenWith : Calculation → Plant → Readings → Answer → Type 0

@@ -16,7 +16,7 @@ use Rattle.rules.specs.declared.Candidate.{Candidate}
 use Rattle.rules.specs.declared.Sheet.{Sheet}
 use Rattle.rules.specs.declared.Refusal.{Refusal}
 use Rattle.rules.specs.declared.Explained.{Explained}
-use Rattle.rules.specs.declared.Answer.{Answer}
+use Rattle.rules.specs.Results.{Answer}
 
 -- every figure of a list is 0
 abbrev pub AllZero : List ℕ → Type 0

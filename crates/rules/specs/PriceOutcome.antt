@@ -1,6 +1,6 @@
 -- What the calls for a price promise of their number, sheet and price: the sheet that examining or choosing gives and its price; or one
 -- numbered refusal, the sheet's own before 22, with zeros. Assumes nothing.
-use Rattle.std.specs.Prelude.{ℕ, ◌+◌, ◌≤◌, ◌<◌, ◌⊎◌, ◌≡◌, not, T}
+use Rattle.std.specs.Prelude.{ℕ, ◌+◌, ◌≤◌, ◌<◌, ◌⊎◌, ◌≡◌, not, T, Result, Ok, Err}
 use Rattle.rules.specs.Rules.{all_kept, FirstBroken}
 use Rattle.rules.specs.Accepting.{values_of, data_rules}
 use Rattle.rules.specs.Examining.{sheet_of, examination_rules}
@@ -15,8 +15,7 @@ use Rattle.rules.specs.declared.Candidate.{Candidate}
 use Rattle.rules.specs.declared.Sheet.{Sheet}
 use Rattle.rules.specs.declared.Tariff.{Tariff}
 use Rattle.rules.specs.declared.Refusal.{Refusal}
-use Rattle.rules.specs.declared.Answer.{Answer}
-use Rattle.rules.specs.declared.PriceAnswer.{PriceAnswer}
+use Rattle.rules.specs.declared.PricedSheet.{PricedSheet}
 
 -- a refusal that is due: its number, an empty sheet and the price 0
 pub record NotPriced (due : Refusal → Type 0) (number : ℕ) (sheet : Sheet) (price : ℕ) : Type 0 where
@@ -73,6 +72,6 @@ pub record FirstBand (t : Tariff) (n : ℕ) : Type 0 where
   pub cost : metre_price t n ≡ band_price t band
 
 -- the two columns of a priced sheet
-abbrev pub PriceColumns : Plant → Readings → PriceAnswer → Type 0
-PriceColumns p r (PriceAnswer.Priced s) = TwoColumns p r (Answer.Designed s.sheet)
-PriceColumns p r (PriceAnswer.Refused n) = Unit {0}
+abbrev pub PriceColumns : Plant → Readings → Result PricedSheet Refusal → Type 0
+PriceColumns p r (Ok s) = TwoColumns p r (Ok s.sheet)
+PriceColumns p r (Err n) = Unit {0}

@@ -1,6 +1,6 @@
 -- Document 02, a sweep that can be put down: the order in which it goes through the grid, the candidates of a stretch of it, and the
 -- best of a set of candidates by the order of choosing. No search stands here. Assumes nothing.
-use Rattle.std.specs.Prelude.{ℕ, ◌+◌, ◌-◌, ◌*◌, ◌/◌, ◌%◌, ◌≤◌, ◌<◌, ◌⊎◌, ◌≡◌, Bool, true, T}
+use Rattle.std.specs.Prelude.{ℕ, ◌+◌, ◌-◌, ◌*◌, ◌/◌, ◌%◌, ◌≤◌, ◌<◌, ◌⊎◌, ◌≡◌, Bool, true, T, Ok, Err, Option, Some, None}
 use Rattle.rules.specs.Limits.{least_fraction, least_ratio, least_time}
 use Rattle.rules.specs.AgeNitrate.{on_grid}
 use Rattle.rules.specs.Examining.{sheet_of, permitted}
@@ -10,8 +10,7 @@ use Rattle.rules.specs.declared.TankFlow.{TankFlow}
 use Rattle.rules.specs.declared.Concentrations.{Concentrations}
 use Rattle.rules.specs.declared.Candidate.{Candidate}
 use Rattle.rules.specs.declared.Refusal.{Refusal}
-use Rattle.rules.specs.declared.Answer.{Answer}
-use Rattle.rules.specs.declared.Best.{Best}
+use Rattle.rules.specs.Results.{Answer}
 
 -- how many thickening times the grid has, and how many candidates with one fraction
 abbrev pub times : ℕ
@@ -47,9 +46,9 @@ abbrev pub First : Plant → ℕ → Candidates
 First p n = Stretch p 0 n
 
 -- the best that is handed on, if any, as a set
-abbrev pub HandedOn : Best → Candidates
-HandedOn Best.NoneYet y = ⊥
-HandedOn (Best.At d) y = y ≡ d
+abbrev pub HandedOn : Option Candidate → Candidates
+HandedOn None y = ⊥
+HandedOn (Some d) y = y ≡ d
 
 -- one set and another together
 abbrev pub Together : Candidates → Candidates → Candidates
@@ -57,17 +56,17 @@ Together a b y = a y ⊎ b y
 
 -- The best of a set of candidates by the order of choosing: permitted, and no permitted one of the set comes before it; or none
 -- yet, and none of them is permitted.
-abbrev pub BestAmong : Plant → Concentrations → Candidates → Best → Type 0
-BestAmong p x among Best.NoneYet = (y : Candidate) → among y → T (permitted p x y) → ⊥
-BestAmong p x among (Best.At d) =
+abbrev pub BestAmong : Plant → Concentrations → Candidates → Option Candidate → Type 0
+BestAmong p x among None = (y : Candidate) → among y → T (permitted p x y) → ⊥
+BestAmong p x among (Some d) =
     among d × T (permitted p x d) × ((y : Candidate) → among y → T (permitted p x y) → NotBefore p x d y)
 
 -- a best that may be handed on: permitted, or none yet
-unfoldable pub best_kept : Plant → Concentrations → Best → Bool
-best_kept p x Best.NoneYet = true
-best_kept p x (Best.At d) = permitted p x d
+unfoldable pub best_kept : Plant → Concentrations → Option Candidate → Bool
+best_kept p x None = true
+best_kept p x (Some d) = permitted p x d
 
 -- what a best answers once nothing is left to ask for: its sheet, or 5
-unfoldable pub best_answer : Plant → Concentrations → Best → Answer
-best_answer p x Best.NoneYet = Answer.Refused Refusal.NoDesign
-best_answer p x (Best.At d) = Answer.Designed (sheet_of p x d)
+unfoldable pub best_answer : Plant → Concentrations → Option Candidate → Answer
+best_answer p x None = Err Refusal.NoDesign
+best_answer p x (Some d) = Ok (sheet_of p x d)

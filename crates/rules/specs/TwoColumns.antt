@@ -1,6 +1,6 @@
 -- The two columns that are read aloud, said of an answer: nitrate to be removed, and nitrate that the tank can remove.
 -- Assumes nothing.
-use Rattle.std.specs.Prelude.{ℕ, ◌≤◌, List, [], ◌∷◌, T}
+use Rattle.std.specs.Prelude.{ℕ, ◌≤◌, List, [], ◌∷◌, T, Ok, Err}
 use Rattle.rules.specs.Rules.{all_kept}
 use Rattle.rules.specs.Accepting.{values_of, data_rules}
 use Rattle.rules.specs.AgeNitrate.{removable}
@@ -12,7 +12,7 @@ use Rattle.rules.specs.declared.Readings.{Readings}
 use Rattle.rules.specs.declared.Concentrations.{Concentrations}
 use Rattle.rules.specs.declared.Reactor.{Reactor}
 use Rattle.rules.specs.declared.Term.{Term}
-use Rattle.rules.specs.declared.Answer.{Answer}
+use Rattle.rules.specs.Results.{Answer}
 
 -- in a reactor the first column is at most the second: D ≤ down(K × C / 1000) + down(dose / 5)
 abbrev pub DesignColumns : Reactor → Type 0
@@ -32,5 +32,5 @@ pub record Removes (p : Plant) (x : Concentrations) (fraction : ℕ) : Type 0 wh
 
 -- a sheet is given for accepted data, and keeps the two columns at its own fraction
 abbrev pub TwoColumns : Plant → Readings → Answer → Type 0
-TwoColumns p r (Answer.Designed s) = T (all_kept (data_rules p r)) × Removes p (values_of p r) s.fraction
-TwoColumns p r (Answer.Refused n) = Unit {0}
+TwoColumns p r (Ok s) = T (all_kept (data_rules p r)) × Removes p (values_of p r) s.fraction
+TwoColumns p r (Err n) = Unit {0}

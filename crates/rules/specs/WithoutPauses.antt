@@ -1,6 +1,6 @@
 -- The steps that know no pauses in aeration (document 02, item 6), and what the pauses leave as it was: every answer of the other
 -- processes, and of the intermittent one all but the transfer. Assumes nothing.
-use Rattle.std.specs.Prelude.{◌≡◌, Bool, true, false}
+use Rattle.std.specs.Prelude.{◌≡◌, Bool, true, false, Ok, Err}
 use Rattle.rules.specs.Accepting.{data_rules}
 use Rattle.rules.specs.ReactorSteps.{reactor_of}
 use Rattle.rules.specs.SettlingSteps.{settling_of}
@@ -16,7 +16,7 @@ use Rattle.rules.specs.declared.Candidate.{Candidate}
 use Rattle.rules.specs.declared.Reactor.{Reactor}
 use Rattle.rules.specs.declared.Aeration.{Aeration}
 use Rattle.rules.specs.declared.Sheet.{Sheet}
-use Rattle.rules.specs.declared.Answer.{Answer}
+use Rattle.rules.specs.Results.{Answer}
 
 -- document 01's transfer for every process
 unfoldable pub aeration_without_pauses : Plant → Concentrations → Reactor → Aeration
@@ -65,8 +65,8 @@ unpaused_sheet p s =
 
 -- an answer with that transfer; a refusal stays
 unfoldable pub unpaused : Plant → Answer → Answer
-unpaused p (Answer.Designed s) = Answer.Designed (unpaused_sheet p s)
-unpaused p (Answer.Refused n) = Answer.Refused n
+unpaused p (Ok s) = Ok (unpaused_sheet p s)
+unpaused p (Err n) = Err n
 
 -- For this plant, whatever its process: but for the transfer every sheet, every refusal and the choice are those of the steps
 -- without pauses.

@@ -1,6 +1,6 @@
 -- The steps that know no way: everything by BOD, as it was before document 02, item 12. Nothing here looks at the way. That the way by
 -- BOD changes nothing is said against these (proofs/ByBod.antt), and what the way by COD asks of the data. Assumes nothing.
-use Rattle.std.specs.Prelude.{ℕ, ◌*◌, ◌≡◌, Bool, not, cond, List, [], ◌∷◌, ◌++◌, leb}
+use Rattle.std.specs.Prelude.{ℕ, ◌*◌, ◌≡◌, Bool, not, cond, List, [], ◌∷◌, ◌++◌, leb, Err}
 use Rattle.rules.specs.Limits.{least_fraction}
 use Rattle.rules.specs.Rules.{Rule, rule, verdict}
 use Rattle.rules.specs.PlantData.{plant_in_range}
@@ -25,7 +25,6 @@ use Rattle.rules.specs.declared.Aeration.{Aeration}
 use Rattle.rules.specs.declared.Term.{Term}
 use Rattle.rules.specs.declared.Sheet.{Sheet}
 use Rattle.rules.specs.declared.Refusal.{Refusal}
-use Rattle.rules.specs.declared.Acceptance.{Acceptance}
 
 -- a plant in another way
 unfoldable pub with_way : Way → Plant → Plant
@@ -99,4 +98,4 @@ pub record SameByBod (p : Plant) : Type 0 where
 -- For this plant 4 is never due: data are accepted by the other rules alone, whatever the readings.
 pub record RatioNotAsked (p : Plant) : Type 0 where
   pub acceptance : (r : Readings) → accept p r ≡ accept_by (verdict (data_rules_without_ratio p r)) (values_of p r)
-  pub not_due : (r : Readings) → accept p r ≡ Acceptance.Refused Refusal.CodRatio → ⊥
+  pub not_due : (r : Readings) → accept p r ≡ Err Refusal.CodRatio → ⊥

@@ -1,6 +1,6 @@
 -- What the calls for a works and for one of its lines promise of the number, the sums and the sheets that they give: everything, or
 -- one numbered refusal with zeros; and the two columns of every line. Assumes nothing.
-use Rattle.std.specs.Prelude.{ℕ, ◌-◌, ◌≤◌, ◌<◌, ◌⊎◌, ◌≡◌, T, get_or}
+use Rattle.std.specs.Prelude.{ℕ, ◌-◌, ◌≤◌, ◌<◌, ◌⊎◌, ◌≡◌, T, get_or, Ok, Err, Result}
 use Rattle.rules.specs.Rules.{all_kept, FirstBroken}
 use Rattle.rules.specs.Accepting.{values_of}
 use Rattle.rules.specs.Answers.{empty_sheet, sheet_figures}
@@ -16,8 +16,7 @@ use Rattle.rules.specs.declared.Split.{Split}
 use Rattle.rules.specs.declared.Sheet.{Sheet}
 use Rattle.rules.specs.declared.Works.{Works}
 use Rattle.rules.specs.declared.Refusal.{Refusal}
-use Rattle.rules.specs.declared.Verdict.{Verdict}
-use Rattle.rules.specs.declared.Answer.{Answer}
+use Rattle.rules.specs.Results.{Answer}
 
 -- demand 3 for a line that has a sheet: none of its parts is 0, and the sheet is its least design
 pub record LineDesigned (line : Plant) (x : Concentrations) (sheet : Sheet) : Type 0 where
@@ -34,13 +33,13 @@ pub record WorksDesigned (p : Plant) (r : Readings) (split : Split) (number : �
   pub kept : T (all_kept (works_rules p r split))
   pub lines : (i : ℕ) → i < split.count → LineDesigned (line_of p split i) (values_of p r) (sheet_at w i)
   pub past : (i : ℕ) → split.count ≤ i → sheet_at w i ≡ empty_sheet
-  pub sums : w.sums ≡ sums_of (λ i. Answer.Designed (sheet_at w i)) split.count
+  pub sums : w.sums ≡ sums_of (λ i. Ok (sheet_at w i)) split.count
 
 -- n is the refusal of a works' first refused line: every line before it has a sheet
 pub record FirstLine (p : Plant) (x : Concentrations) (split : Split) (n : Refusal) : Type 0 where
   pub line : ℕ
   pub below : line < split.count
-  pub refused : LineChosen (line_of p split line) x (Answer.Refused n)
+  pub refused : LineChosen (line_of p split line) x (Err n)
   pub earlier : (i : ℕ) → i < line → (s : Sheet) × LineDesigned (line_of p split i) x s
 
 -- a works' refusal: the first of 18 and the data's rules that is broken, or that of the first refused line
@@ -60,16 +59,16 @@ pub record LineDesigns (p : Plant) (r : Readings) (split : Split) (line number :
 abbrev pub LineDue : Plant → Readings → Split → ℕ → Refusal → Type 0
 LineDue p r split line n =
     FirstBroken (line_rules p r split line) n
-    ⊎ (T (all_kept (line_rules p r split line)) × LineChosen (line_of p split (line - 1)) (values_of p r) (Answer.Refused n))
+    ⊎ (T (all_kept (line_rules p r split line)) × LineChosen (line_of p split (line - 1)) (values_of p r) (Err n))
 
 abbrev pub LineOutcome : Plant → Readings → Split → ℕ → ℕ → Sheet → Type 0
 LineOutcome p r split line number sheet = LineDesigns p r split line number sheet ⊎ Refuses (LineDue p r split line) number (sheet_figures sheet)
 
 -- the two columns: of every line of a works that has its sheets, and of a line's own
-abbrev pub WorksColumns : Plant → Readings → Split → Works → Type 0
-WorksColumns p r split w =
-    w.verdict ≡ Verdict.Kept → (i : ℕ) → i < split.count → Removes (line_of p split i) (values_of p r) (sheet_at w i).fraction
+abbrev pub WorksColumns : Plant → Readings → Split → Result Works Refusal → Type 0
+WorksColumns p r split (Ok w) = (i : ℕ) → i < split.count → Removes (line_of p split i) (values_of p r) (sheet_at w i).fraction
+WorksColumns p r split (Err n) = Unit {0}
 
 abbrev pub LineColumns : Plant → Readings → Split → ℕ → Answer → Type 0
-LineColumns p r split line (Answer.Designed s) = Removes (line_of p split (line - 1)) (values_of p r) s.fraction
-LineColumns p r split line (Answer.Refused n) = Unit {0}
+LineColumns p r split line (Ok s) = Removes (line_of p split (line - 1)) (values_of p r) s.fraction
+LineColumns p r split line (Err n) = Unit {0}

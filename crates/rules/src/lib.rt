@@ -1,6 +1,12 @@
 // The types of document 01: plant data, lab readings, candidates, sheets and answers. The definitions over them are
-// in specs/. No function stands here.
+// in specs/.
 #![tactic(auto)]
+
+mod accepted;
+mod kinds;
+
+pub use accepted::Accepted;
+pub use kinds::UnknownKind;
 
 // The ends of the grid, and the figures' ends that the code names in several places.
 pub const LEAST_FRACTION: u32 = 200;
@@ -30,7 +36,7 @@ pub const LEAST_NITRATE_TARGET: u32 = 1_000;
 
 pub const MOST_NITRATE_TARGET: u32 = 50_000;
 
-pub const MOST_TERMS: u32 = 4;
+pub const MOST_TERMS: usize = 4;
 
 // Step-feed denitrification in two or in three steps.
 #[derive(Clone, Copy)]
@@ -85,8 +91,8 @@ pub enum Way {
     Cod,
 }
 
-// A day of the year.
-#[derive(Clone, Copy)]
+// A day of the year. A later day is the larger one.
+#[derive(Clone, Copy, PartialEq, Eq, PartialOrd, Ord, Default)]
 pub struct Date {
     pub month: u32,
     pub day: u32,
@@ -94,7 +100,7 @@ pub struct Date {
 
 // A term of the consent: it runs from its first to its last day, both included; over the new year where the last day comes
 // before the first.
-#[derive(Clone, Copy)]
+#[derive(Clone, Copy, Default)]
 pub struct Term {
     pub first: Date,
     pub last: Date,
@@ -108,10 +114,7 @@ pub struct Term {
 #[derive(Clone, Copy)]
 pub struct Consent {
     pub count: u32,
-    pub first: Term,
-    pub second: Term,
-    pub third: Term,
-    pub fourth: Term,
+    pub terms: [Term; MOST_TERMS],
 }
 
 // Plant data and site, each figure in document 01's unit.
@@ -249,7 +252,7 @@ pub struct Aeration {
 }
 
 // Document 01's "sheet": the fifteen figures of a listing, in its order.
-#[derive(Clone, Copy)]
+#[derive(Clone, Copy, Default)]
 pub struct Sheet {
     pub fraction: u64,
     pub return_ratio: u64,
@@ -268,71 +271,38 @@ pub struct Sheet {
     pub transfer: u64,
 }
 
-// The refusals, in the order of their numbers.
-#[derive(Clone, Copy)]
+// The refusals, by the paper's numbers.
+#[derive(Clone, Copy, Debug, PartialEq, Eq)]
 pub enum Refusal {
-    PlantData,
-    NoNumber,
-    ReadingRange,
-    CodRatio,
-    NoDesign,
-    OffGrid,
-    Nitrate,
-    Solids,
-    Surface,
-    Depth,
-    ShortPage,
-    DayLog,
-    DayValue,
-    Terms,
-    Nitrification,
-    TermNitrate,
-    Bulking,
-    Lines,
-    Advance,
-    Span,
-    BuiltSize,
-    Tariff,
-}
-
-// What a list of rules says: all of them are kept, or the refusal of the first that is broken.
-#[derive(Clone, Copy)]
-pub enum Verdict {
-    Kept,
-    Broken(Refusal),
-}
-
-// What plant data and readings get: document 01's "accepted", with the concentrations, or the first refusal due.
-#[derive(Clone, Copy)]
-pub enum Acceptance {
-    Accepted(Concentrations),
-    Refused(Refusal),
+    PlantData = 1,
+    NoNumber = 2,
+    ReadingRange = 3,
+    CodRatio = 4,
+    NoDesign = 5,
+    OffGrid = 6,
+    Nitrate = 7,
+    Solids = 8,
+    Surface = 9,
+    Depth = 10,
+    ShortPage = 11,
+    DayLog = 12,
+    DayValue = 13,
+    Terms = 14,
+    Nitrification = 15,
+    TermNitrate = 16,
+    Bulking = 17,
+    Lines = 18,
+    Advance = 19,
+    Span = 20,
+    BuiltSize = 21,
+    Tariff = 22,
 }
 
 // What examining and choosing answer: a complete sheet, or one refusal.
-#[derive(Clone, Copy)]
-pub enum Answer {
-    Designed(Sheet),
-    Refused(Refusal),
-}
-
-// What writing answers: the number of bytes written, or a refusal.
-#[derive(Clone, Copy)]
-pub enum Written {
-    Bytes(usize),
-    Refused(Refusal),
-}
-
-// What the target of a date is answered with: the lowest target in force, that no term runs, or a refusal.
-#[derive(Clone, Copy)]
-pub enum TargetAnswer {
-    InForce(u32),
-    NoTerm,
-    Refused(Refusal),
-}
+pub type Answer = Result<Sheet, Refusal>;
 
 // The figures that explain a candidate in one term of the consent.
-#[derive(Clone, Copy)]
+#[derive(Clone, Copy, Default)]
 pub struct TermExplained {
     // up(1000a / t): what nitrification needs of the sludge age, thousandths
     pub aerobic_share: u64,
@@ -364,33 +334,14 @@ pub struct Explained {
     pub surface: u64,
     // H, mm
     pub depth: u64,
-    // the first of the rules 7, 15, 16 and 8 to 10 that is broken, or none
-    pub verdict: Verdict,
+    // the first of the rules 7, 15, 16 and 8 to 10 that is broken, if any
+    pub verdict: Result<(), Refusal>,
     // in each term of the consent; zeros past their count
-    pub first: TermExplained,
-    pub second: TermExplained,
-    pub third: TermExplained,
-    pub fourth: TermExplained,
-}
-
-// What explaining a candidate answers: its figures, or one refusal of the data's rules and 6.
-#[derive(Clone, Copy)]
-pub enum Explanation {
-    Figures(Explained),
-    Refused(Refusal),
+    pub terms: [TermExplained; MOST_TERMS],
 }
 
 // How many numbers a census has counts for: every answer's number is below it.
 pub const ANSWER_NUMBERS: usize = 32;
-
-// What the census of the grid answers: 0 and the counts, or a refusal's number and zeros.
-#[derive(Clone, Copy)]
-pub struct Census {
-    pub number: u64,
-    // at k how many candidates of the grid are answered with k: at 0 the permitted ones, at a rule's number those of which
-    // it is the first broken
-    pub counts: [u64; ANSWER_NUMBERS],
-}
 
 // The most lines of a works.
 pub const MOST_LINES: usize = 8;
@@ -404,7 +355,7 @@ pub struct Split {
 }
 
 // Figures of the sheets of a works' lines, added up.
-#[derive(Clone, Copy)]
+#[derive(Clone, Copy, Default)]
 pub struct Sums {
     pub sludge: u64,
     pub mass: u64,
@@ -416,10 +367,9 @@ pub struct Sums {
     pub transfer: u64,
 }
 
-// What a works is answered with: every line has a sheet, and the sums and the sheets; or a refusal, and zeros.
+// What a works whose lines all have a sheet is answered with: the sums and the sheets.
 #[derive(Clone, Copy)]
 pub struct Works {
-    pub verdict: Verdict,
     pub sums: Sums,
     // of the lines in order; zeros past their count
     pub sheets: [Sheet; MOST_LINES],
@@ -428,18 +378,11 @@ pub struct Works {
 // The most candidates that one advance of a sweep asks for.
 pub const MOST_ADVANCE: u32 = 1_000;
 
-// The best permitted candidate of a sweep so far.
-#[derive(Clone, Copy)]
-pub enum Best {
-    NoneYet,
-    At(Candidate),
-}
-
-// What an advance of a sweep answers: a refusal; that the sweep is unfinished, with the best so far; or what choosing answers.
+// What an advance of a sweep that is not refused answers: that the sweep is unfinished, with the best permitted candidate so far, or
+// what choosing answers.
 #[derive(Clone, Copy)]
 pub enum Progress {
-    Refused(Refusal),
-    Unfinished(Best),
+    Unfinished(Option<Candidate>),
     Finished(Answer),
 }
 
@@ -465,15 +408,6 @@ pub struct IndexSpan {
     pub most: u32,
 }
 
-// What existing tanks are answered with: they hold at every index of the span; the smallest index at which they are lost; or a
-// refusal.
-#[derive(Clone, Copy)]
-pub enum BuiltAnswer {
-    Held,
-    Lost(u32),
-    Refused(Refusal),
-}
-
 // The most bands of a tariff.
 pub const MOST_BANDS: usize = 6;
 
@@ -482,15 +416,21 @@ pub const MOST_PRICE: u32 = 1_000_000;
 
 pub const MOST_SURCHARGE: u32 = 500;
 
-// What concrete costs by the cubic metre: as many bands as the count says, each with an upper limit and a price; the last of them has no
-// limit. Entries past the count are not looked at.
+// A band of a tariff.
+#[derive(Clone, Copy, Default)]
+pub struct Band {
+    // m3
+    pub limit: u32,
+    // cents per m3
+    pub price: u32,
+}
+
+// What concrete costs by the cubic metre: as many bands as the count says, each up to its limit; the last of them has no limit. Bands
+// past the count are not looked at.
 #[derive(Clone, Copy)]
 pub struct Tariff {
     pub count: u32,
-    // m3
-    pub limits: [u32; MOST_BANDS],
-    // cents per m3
-    pub prices: [u32; MOST_BANDS],
+    pub bands: [Band; MOST_BANDS],
     // thousandths of the sum
     pub surcharge: u32,
 }
@@ -503,13 +443,6 @@ pub struct PricedSheet {
     pub price: u64,
 }
 
-// What a price is answered with: a sheet and its price, or a refusal.
-#[derive(Clone, Copy)]
-pub enum PriceAnswer {
-    Priced(PricedSheet),
-    Refused(Refusal),
-}
-
 // A day of the day log.
 #[derive(Clone, Copy)]
 pub struct Day {
@@ -520,17 +453,10 @@ pub struct Day {
 }
 
 // A load over 14 consecutive days.
-#[derive(Clone, Copy)]
+#[derive(Clone, Copy, Default)]
 pub struct TwoWeekLoad {
     // the sum of the days' loads: products of thousandths of m3/d and of mg/l
     pub sum: u64,
     // its first day, counted from 1
     pub day: u64,
-}
-
-// What the day log is answered with: its highest two-week load, or a refusal.
-#[derive(Clone, Copy)]
-pub enum LoadAnswer {
-    Load(TwoWeekLoad),
-    Refused(Refusal),
 }

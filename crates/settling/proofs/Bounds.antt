@@ -1,11 +1,12 @@
 -- The limits of the whole tank, by the limits of its figures in turn; and the tank put together from its figures.
 -- Assumes nothing.
-use mathlib.Core.Path.{◌≡◌}
+use mathlib.Core.Path.{◌≡◌, ◌∙◌}
+use native.Mathlib.Nat.{max_comm}
 use Prim.Native.Nat.{ℕ, ◌+◌, ◌-◌, ◌*◌, ◌≤◌, max}
 use native.Mathlib.Omega.{arith}
 use Rattle.rules.specs.Rounding.{up}
 use Rattle.rules.specs.Limits.{least_bottom, most_bottom, least_solids, most_solids, least_depth}
-use Rattle.rules.specs.Ranges.{Between, GridRatio, GridTime, PlantRanges, SettlingBounds}
+use Rattle.rules.specs.Ranges.{Between, Index, GridRatio, GridTime, PlantRanges, SettlingBounds}
 use Rattle.rules.specs.SettlingSteps.{thickening_root, bottom_sludge, return_share, return_sludge, mixed_solids, diluted_volume, surface_overflow_rate, settling_surface, settling_depth, settling_volume, settling_of}
 use Rattle.rules.specs.declared.Plant.{Plant}
 use Rattle.rules.specs.declared.Settling.{Settling}
@@ -29,6 +30,14 @@ settling_bounds_lem p ratio thickening g r h =
     let depth = depth_limits (record { overflow = rate; returned = r; diluted = diluted; mixed = mixed; time = h; settled = settled; half = half }) in
     record { solids = mixed; sludge_volume = diluted; surface = surface; depth = depth; volume = volume_limits surface depth }
 
+-- a bottom sludge's limits, and those of its product with the index, by its definition
+pub thickened_limits :
+    {index time bottom : ℕ} →
+    Index index × GridTime time →
+    bottom ≡ bottom_sludge (thickening_root time) index →
+    Between least_bottom most_bottom bottom × (bottom * index ≤ 1_357_200)
+thickened_limits {index} g e = rw e (bottom_limits (root_limits g.1) g.0, bottom_index index (root_limits g.1))
+
 -- the tank's figures, each from those before it, are the definition's
 pub tank_figures :
     (p : Plant) (ratio thickening : ℕ) {b returned e v q a h capacity : ℕ} →
@@ -51,6 +60,6 @@ pub depth_parts :
     loading ≡ up (rate * volume) 1000 →
     storage ≡ up (9 * loading * (100 + ratio)) 1000 →
     thickened ≡ up (solids * rate * (100 + ratio) * thickening) (1000 * bottom) →
-    max least_depth (500 + separation + storage + thickened) ≡ settling_depth rate ratio volume solids thickening bottom
+    max (500 + separation + storage + thickened) least_depth ≡ settling_depth rate ratio volume solids thickening bottom
 unfolding settling_depth
-depth_parts rate ratio volume solids thickening bottom es el eg et = cc
+depth_parts rate ratio volume solids thickening bottom es el eg et = max_comm _ _ ∙ cc

@@ -1,7 +1,8 @@
 -- How often a span of possible roots is halved, and where it has to end, on the thickening times of the grid. Assumes nothing.
-use mathlib.Core.Path.{◌≡◌, refl}
+use mathlib.Core.Path.{◌≡◌, refl, ap}
 use mathlib.Core.Bool.{true, false}
-use Prim.Native.Nat.{ℕ, zero, suc, ◌+◌, ◌*◌, ◌/◌, ◌≤◌, ◌<◌}
+use Prim.Native.Nat.{ℕ, zero, suc, ◌+◌, ◌-◌, ◌*◌, ◌/◌, ◌^◌, ◌≤◌, ◌<◌}
+use native.Mathlib.Nat.{pow-suc}
 use native.Mathlib.Omega.{arith}
 use lib.Dec.{leb}
 use Rattle.rules.specs.Ranges.{GridTime}
@@ -30,3 +31,7 @@ span_enough h b = omega arith
 -- 8,192 is not
 pub span_too_low : (h : ℕ) → GridTime h → 8_192 * 8_192 * 8_192 ≤ h * 100_000_000_000
 span_too_low h b = omega arith
+
+-- with one halving more left, twice as many possible roots are left
+pub halving : (left : ℕ) → 0 < left → 2 ^ left ≡ 2 * 2 ^ (left - 1)
+halving left h = let e : left ≡ suc (left - 1) = omega arith in omega (arith, ap (λ m. 2 ^ m) e, pow-suc 2 (left - 1))

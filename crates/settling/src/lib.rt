@@ -3,16 +3,21 @@
 
 ghost use Rattle.std.specs.Prelude.{◌≡◌, ◌*◌, ◌≤◌, ◌<◌};
 ghost use Rattle.rules.specs.Limits.{least_bottom, most_bottom, least_returned, least_solids, most_solids, most_sludge_volume, most_surface, least_depth, most_depth, most_settling_volume};
-ghost use Rattle.rules.specs.Ranges.{Between, Index, GridRatio, GridTime, PlantRanges, SettlingBounds};
-ghost use Rattle.rules.specs.SettlingSteps.{cube_root, thickening_root, bottom_sludge, return_share, return_sludge, mixed_solids, diluted_volume, solids_kept, volume_loading, largest_overflow_rate, surface_overflow_rate, settling_surface, settling_depth, settling_volume, settling_of};
+ghost use Rattle.rules.specs.Ranges.{Between, Index, GridRatio, GridTime};
+ghost use Rattle.rules.specs.SettlingSteps.{cube_root, thickening_root, return_share, return_sludge, mixed_solids, diluted_volume, solids_kept, volume_loading, largest_overflow_rate, surface_overflow_rate, settling_surface, settling_depth, settling_volume};
 ghost use Rattle.rules.specs.Rules.{verdict};
 ghost use Rattle.rules.specs.Examining.{tank_rules};
 ghost use Rattle.settling.specs.DepthRanges.{DepthRanges};
 
-use rules::{Plant, Refusal, Removal, Settling, TankFlow, Verdict};
+mod thickened;
+
+use rules::{Plant, Refusal, Removal, Settling, TankFlow};
+pub use thickened::Thickened;
 
 // The largest whole number whose cube is at most n, for a root below 16,384. It is at least `low` and below `high`; this span
-// of 2 to the 14th possible roots is halved 14 times, until one is left.
+// of 2 to the 14th possible roots is halved 14 times, until one is left. Document 01 names the form: a loop that yields the root
+// by break.
+#[tactic(auto, using(crate::proofs::RootSpan::halving))]
 fn cube_root(n: u64) -> u64
     requires { n < 16_384 * 16_384 * 16_384 }
     ensures { result ≡ cube_root n }
@@ -35,6 +40,7 @@ fn cube_root(n: u64) -> u64
 }
 
 // c, the root that the bottom sludge rests on, ten-thousandths
+#[tactic(auto, using(crate::proofs::Limits::root_limits), unfolding(rules::specs::SettlingSteps::thickening_root))]
 fn thickening_root(thickening: u64) -> u64
     requires { GridTime thickening }
     ensures { (result ≡ thickening_root thickening) × Between 12_599 13_572 result }
@@ -42,15 +48,8 @@ fn thickening_root(thickening: u64) -> u64
     cube_root(thickening * 100_000_000_000)
 }
 
-// B, bottom sludge, g/m3: one figure for each thickening time, whatever the return ratio.
-pub fn bottom_sludge(index: u32, thickening: u32) -> u64
-    requires { Index index × GridTime thickening }
-    ensures { (result ≡ bottom_sludge (thickening_root thickening) index) × Between least_bottom most_bottom result }
-{
-    100 * thickening_root(thickening as u64) / index as u64
-}
-
 // w, the return sludge's share of the bottom sludge, tenths
+#[tactic(auto, unfolding(rules::specs::SettlingSteps::return_share))]
 fn return_share(removal: Removal) -> u64
     ensures { (result ≡ return_share removal) × Between 5 10 result }
 {
@@ -62,6 +61,7 @@ fn return_share(removal: Removal) -> u64
 }
 
 // R, return sludge, g/m3
+#[tactic(auto, using(crate::proofs::Limits::returned_limits), unfolding(rules::specs::SettlingSteps::return_sludge))]
 fn return_sludge(removal: Removal, bottom: u64) -> u64
     requires { Between least_bottom most_bottom bottom }
     ensures { (result ≡ return_sludge (return_share removal) bottom) × Between least_returned most_bottom result × (result ≤ bottom) }
@@ -70,6 +70,7 @@ fn return_sludge(removal: Removal, bottom: u64) -> u64
 }
 
 // E, solids in the aeration tank, g/m3: at most half the return sludge's.
+#[tactic(auto, using(crate::proofs::Limits::mixed_limits, crate::proofs::Limits::mixed_half), unfolding(rules::specs::SettlingSteps::mixed_solids))]
 fn mixed_solids(returned: u64, ratio: u64) -> u64
     requires { Between least_returned most_bottom returned × GridRatio ratio }
     ensures { (result ≡ mixed_solids returned ratio) × Between least_solids most_solids result × (2 * result ≤ returned) }
@@ -78,6 +79,7 @@ fn mixed_solids(returned: u64, ratio: u64) -> u64
 }
 
 // V, diluted sludge volume, l/m3
+#[tactic(auto, using(crate::proofs::Limits::diluted_limits), unfolding(rules::specs::SettlingSteps::diluted_volume))]
 fn diluted_volume(solids: u64, index: u64) -> u64
     requires { Between least_solids most_solids solids × Index index × (solids * index ≤ 678_600) }
     ensures { (result ≡ diluted_volume solids index) × Between 1 most_sludge_volume result }
@@ -86,6 +88,7 @@ fn diluted_volume(solids: u64, index: u64) -> u64
 }
 
 // s, sludge volume surface loading rate, l/(m2 h)
+#[tactic(auto, unfolding(rules::specs::SettlingSteps::volume_loading))]
 fn volume_loading(tank: TankFlow) -> u64
     ensures { (result ≡ volume_loading tank) × Between 500 650 result }
 {
@@ -96,6 +99,7 @@ fn volume_loading(tank: TankFlow) -> u64
 }
 
 // m, largest surface overflow rate, mm/h
+#[tactic(auto, unfolding(rules::specs::SettlingSteps::largest_overflow_rate))]
 fn largest_overflow_rate(tank: TankFlow) -> u64
     ensures { (result ≡ largest_overflow_rate tank) × Between 1_600 2_000 result }
 {
@@ -106,16 +110,16 @@ fn largest_overflow_rate(tank: TankFlow) -> u64
 }
 
 // q, surface overflow rate, mm/h
+#[tactic(auto, using(crate::proofs::Limits::rate_limits), unfolding(rules::specs::SettlingSteps::surface_overflow_rate))]
 fn surface_overflow_rate(tank: TankFlow, volume: u64) -> u64
     requires { Between 1 most_sludge_volume volume }
     ensures { (result ≡ surface_overflow_rate tank volume) × Between 720 2_000 result }
 {
-    let rate = 1000 * volume_loading(tank) / volume;
-    let largest = largest_overflow_rate(tank);
-    if rate < largest { rate } else { largest }
+    (1000 * volume_loading(tank) / volume).min(largest_overflow_rate(tank))
 }
 
 // A, settling surface, m2
+#[tactic(auto, using(crate::proofs::Limits::surface_limits), unfolding(rules::specs::SettlingSteps::settling_surface))]
 fn settling_surface(wet: u64, rate: u64) -> u64
     requires { Between 1 50_000 wet × Between 720 2_000 rate }
     ensures { (result ≡ settling_surface wet rate) × Between 1 most_surface result }
@@ -124,7 +128,7 @@ fn settling_surface(wet: u64, rate: u64) -> u64
 }
 
 // H, settling depth, mm: 500 of clear water, then separation, storage and thickening; at least 3,000. The storage
-// takes q · V as it is, also where q was held at m.
+// takes q · V as it is, also where q was held at m. The six figures meet in this step alone, so no struct holds them.
 fn settling_depth(
     rate: u64,
     ratio: u64,
@@ -140,10 +144,11 @@ fn settling_depth(
     let loading = rounding::round_up(rate * volume, 1000);
     let storage = rounding::round_up(9 * loading * (100 + ratio), 1000);
     let thickened = rounding::round_up(solids * rate * (100 + ratio) * thickening, 1000 * bottom);
-    rounding::larger(3_000, 500 + separation + storage + thickened)
+    (500 + separation + storage + thickened).max(3_000)
 }
 
 // Settling volume, m3
+#[tactic(auto, using(crate::proofs::Limits::volume_limits), unfolding(rules::specs::SettlingSteps::settling_volume))]
 fn settling_volume(surface: u64, depth: u64) -> u64
     requires { Between 1 most_surface surface × Between least_depth most_depth depth }
     ensures { (result ≡ settling_volume surface depth) × Between 1 most_settling_volume result }
@@ -151,35 +156,8 @@ fn settling_volume(surface: u64, depth: u64) -> u64
     rounding::round_up(surface * depth, 1000)
 }
 
-// The settling tank's figures, from the bottom sludge of its thickening time.
-pub fn settling(plant: Plant, return_ratio: u32, thickening: u32, bottom: u64) -> Settling
-    requires plant_ranges { PlantRanges plant × GridRatio return_ratio × GridTime thickening }
-    requires bottom_value { bottom ≡ bottom_sludge (thickening_root thickening) plant.sludge_volume_index }
-    ensures { (result ≡ settling_of plant return_ratio thickening) × SettlingBounds result }
-{
-    let index = plant.sludge_volume_index as u64;
-    let wet = plant.wet_weather_flow as u64;
-    let removal = plant.removal;
-    let tank = plant.tank;
-    let ratio = return_ratio as u64;
-    let time = thickening as u64;
-    let returned = return_sludge(removal, bottom);
-    let solids = mixed_solids(returned, ratio);
-    let sludge_volume = diluted_volume(solids, index);
-    let rate = surface_overflow_rate(tank, sludge_volume);
-    let surface = settling_surface(wet, rate);
-    let depth = settling_depth(rate, ratio, sludge_volume, solids, time, bottom);
-    let volume = settling_volume(surface, depth);
-    Settling {
-        solids,
-        sludge_volume,
-        surface,
-        depth,
-        volume,
-    }
-}
-
 // Needed of a candidate: E of at least 1,000 and V of at most 600.
+#[tactic(auto, unfolding(rules::specs::SettlingSteps::solids_kept))]
 fn solids_kept(solids: u64, volume: u64) -> bool
     ensures { result ≡ solids_kept solids volume }
 {
@@ -187,21 +165,13 @@ fn solids_kept(solids: u64, volume: u64) -> bool
 }
 
 // The verdict on the tank's rules 8 to 10.
-pub fn tank_verdict(plant: Plant, settling: Settling) -> Verdict
-    ensures { result ≡ verdict (tank_rules plant settling) }
+pub fn tank_verdict(plant: &Plant, settling: Settling) -> Result<(), Refusal>
+    ensures { result ≡ verdict (tank_rules plant.now settling) }
 {
-    let site_surface = plant.site_surface as u64;
-    let site_depth = plant.site_depth as u64;
     let solids = solids_kept(settling.solids, settling.sludge_volume);
-    let surface = settling.surface <= site_surface;
-    let depth = settling.depth <= site_depth;
-    verdicts::rule(
-        solids,
-        Refusal::Solids,
-        verdicts::rule(
-            surface,
-            Refusal::Surface,
-            verdicts::rule(depth, Refusal::Depth, Verdict::Kept),
-        ),
-    )
+    let surface = settling.surface <= u64::from(plant.site_surface);
+    let depth = settling.depth <= u64::from(plant.site_depth);
+    verdicts::rule(solids, Refusal::Solids)?;
+    verdicts::rule(surface, Refusal::Surface)?;
+    verdicts::rule(depth, Refusal::Depth)
 }

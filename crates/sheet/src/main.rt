@@ -8,8 +8,8 @@ ghost use Rattle.rules.specs.Examining.{examine};
 ghost use Rattle.listing.specs.Pages.{Writes};
 
 use rules::{
-    Candidate, Consent, Date, Plant, Precipitant, PrimarySettling, Process, Reading, Readings,
-    Removal, TankFlow, Term, Way, Written,
+    Candidate, Consent, MOST_TERMS, Plant, Precipitant, PrimarySettling, Process, Reading,
+    Readings, Refusal, Removal, TankFlow, Term, Way,
 };
 use std::io;
 use std::io::Write;
@@ -18,18 +18,9 @@ use std::io::Write;
 fn consent() -> Consent
     ensures { result ≡ no_terms }
 {
-    let none = Term {
-        first: Date { month: 0, day: 0 },
-        last: Date { month: 0, day: 0 },
-        temperature: 0,
-        nitrate_target: 0,
-    };
     Consent {
         count: 0,
-        first: none,
-        second: none,
-        third: none,
-        fourth: none,
+        terms: [Term::default(); MOST_TERMS],
     }
 }
 
@@ -87,7 +78,7 @@ fn candidate() -> Candidate
 }
 
 // Writes Case A's listing on a page.
-fn write_sheet(page: &mut [u8]) -> Written
+fn write_sheet(page: &mut [u8]) -> Result<usize, Refusal>
     ensures { Writes (examine case_a readings_a (candidate 300 75 20)) page.old page.new result }
 {
     pewgull::write(pewgull::examine(plant(), readings(), candidate()), page)
@@ -96,7 +87,7 @@ fn write_sheet(page: &mut [u8]) -> Written
 fn main(rt: HostRuntime) -> io::Result<()> {
     let mut page = [0u8; 512];
     match write_sheet(&mut page) {
-        Written::Bytes(count) => rt.stdout().write_all(&page[..count]),
-        Written::Refused(_) => Ok(()),
+        Ok(count) => rt.stdout().write_all(&page[..count]),
+        Err(_) => Ok(()),
     }
 }

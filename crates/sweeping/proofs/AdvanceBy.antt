@@ -7,6 +7,7 @@ use native.Mathlib.Omega.{arith}
 use lib.Dec.{T, leb, ltb, leb→le}
 use lib.Ieee.Fits.{and_l, and_r}
 use borrow.Author.Tests.{ltb-true, ltb-false}
+use Rattle.std.specs.Prelude.{Result, Ok, Err, Option, Some, None}
 use Rattle.rules.specs.Limits.{most_advance}
 use Rattle.rules.specs.Rules.{all_kept}
 use Rattle.rules.specs.Accepting.{values_of, data_rules, accept}
@@ -16,16 +17,14 @@ use Rattle.rules.specs.Census.{grid_size}
 use Rattle.rules.specs.Sweep.{BestAmong, best_kept, best_answer}
 use Rattle.rules.specs.declared.Concentrations.{Concentrations}
 use Rattle.rules.specs.declared.Refusal.{Refusal}
-use Rattle.rules.specs.declared.Acceptance.{Acceptance}
-use Rattle.rules.specs.declared.Best.{Best}
 use Rattle.rules.specs.declared.Progress.{Progress}
 use Rattle.rules.proofs.AcceptedData.{accepted_none_due, none_due_accepted, refused_no}
 use Rattle.rules.proofs.NitrateColumns.{two_columns}
 use Rattle.rules.proofs.OutcomeLaws.{empty_zeros}
 use Rattle.rules.proofs.BestLaws.{best_designed}
 use Rattle.sweeping.specs.declared.Sweep.{Sweep}
-use Rattle.sweeping.specs.declared.Advanced.{Advanced}
-use Rattle.sweeping.specs.Sweeps.{numbers_kept, goes_on_with, goes_on, OwnCandidates, progress_of, Moves, stays, AdvanceBy, AdvancedFrom, ProgressColumns, AdvanceOutcome}
+use Rattle.sweeping.specs.Sweeps.{numbers_kept, goes_on_with, goes_on, OwnCandidates, progress_of, Moves, Stays, AdvanceBy, AdvancedFrom, ProgressColumns, AdvanceOutcome}
+use Rattle.rules.specs.declared.Candidate.{Candidate}
 
 -- a test holds, or is false
 pub true_kept : (b : Bool) → b ≡ true → T b
@@ -44,16 +43,16 @@ pub false_right : (a b : Bool) → b ≡ false → (a && b) ≡ false
 false_right true b e = e
 false_right false b e = refl
 
-module _ (x : Concentrations) (s : Sweep) (n : ℕ) (a : Advanced) where
+module _ (x : Concentrations) (s : Sweep) (n : ℕ) (t : Sweep) (g : Result Progress Refusal) where
   -- the tests besides the data
-  pub numbers_broken : numbers_kept s.plant.tank s.asked n ≡ false → a ≡ stays s → AdvanceBy (goes_on_with x s n) x s n a
+  pub numbers_broken : numbers_kept s.plant.tank s.asked n ≡ false → Stays s t g → AdvanceBy (goes_on_with x s n) x s n t g
   numbers_broken e h = rw (false_left (numbers_kept s.plant.tank s.asked n) (best_kept s.plant x s.best) e) h
 
-  pub best_broken : best_kept s.plant x s.best ≡ false → a ≡ stays s → AdvanceBy (goes_on_with x s n) x s n a
+  pub best_broken : best_kept s.plant x s.best ≡ false → Stays s t g → AdvanceBy (goes_on_with x s n) x s n t g
   best_broken e h = rw (false_right (numbers_kept s.plant.tank s.asked n) (best_kept s.plant x s.best) e) h
 
-  pub all_kept_lem : numbers_kept s.plant.tank s.asked n ≡ true → T (best_kept s.plant x s.best) → Moves x s n a → AdvanceBy (goes_on_with x s n) x s n a
-  all_kept_lem e t h = rw (e, kept_true (best_kept s.plant x s.best) t) h
+  pub all_kept_lem : numbers_kept s.plant.tank s.asked n ≡ true → T (best_kept s.plant x s.best) → Moves x s n t g → AdvanceBy (goes_on_with x s n) x s n t g
+  all_kept_lem e k h = rw (e, kept_true (best_kept s.plant x s.best) k) h
 
 -- the numbers that are kept, as facts
 pub numbers_facts : (s : Sweep) (n : ℕ) → numbers_kept s.plant.tank s.asked n ≡ true → (n ≤ most_advance) × (s.asked ≤ grid_size s.plant.tank)
@@ -65,9 +64,9 @@ numbers_facts s n e =
 
 -- ---- with the data
 
-module _ (s : Sweep) (n : ℕ) (a : Advanced) where
+module _ (s : Sweep) (n : ℕ) (t : Sweep) (g : Result Progress Refusal) where
   -- data that are refused
-  pub data_refused : (r : Refusal) → accept s.plant s.readings ≡ Acceptance.Refused r → a ≡ stays s → AdvancedFrom s n a
+  pub data_refused : (r : Refusal) → accept s.plant s.readings ≡ Err r → Stays s t g → AdvancedFrom s n t g
   unfolding goes_on
   data_refused r e h = rw (false_left (all_kept (data_rules s.plant s.readings)) (goes_on_with (values_of s.plant s.readings) s n) (go (all_kept (data_rules s.plant s.readings)) refl)) h
     where
@@ -76,7 +75,7 @@ module _ (s : Sweep) (n : ℕ) (a : Advanced) where
       go true q = absurd (refused_no r (values_of s.plant s.readings) (sym e ∙ none_due_accepted s.plant s.readings (true_kept (all_kept (data_rules s.plant s.readings)) q)))
 
   -- data that are accepted
-  pub data_accepted : (x : Concentrations) → accept s.plant s.readings ≡ Acceptance.Accepted x → AdvanceBy (goes_on_with x s n) x s n a → AdvancedFrom s n a
+  pub data_accepted : (x : Concentrations) → accept s.plant s.readings ≡ Ok x → AdvanceBy (goes_on_with x s n) x s n t g → AdvancedFrom s n t g
   unfolding goes_on
   data_accepted x e h =
       let given = accepted_none_due s.plant s.readings x e in
@@ -86,45 +85,51 @@ module _ (s : Sweep) (n : ℕ) (a : Advanced) where
 
   kept_data : T (goes_on s n) → T (all_kept (data_rules s.plant s.readings))
   unfolding goes_on
-  kept_data t = and_l (all_kept (data_rules s.plant s.readings)) (goes_on_with (values_of s.plant s.readings) s n) t
+  kept_data k = and_l (all_kept (data_rules s.plant s.readings)) (goes_on_with (values_of s.plant s.readings) s n) k
 
   -- the columns of a finished sweep's sheet
-  best_columns : (b : Best) → T (all_kept (data_rules s.plant s.readings)) → BestAmong s.plant (values_of s.plant s.readings) (OwnCandidates s n) b → ProgressColumns s.plant s.readings (Progress.Finished (best_answer s.plant (values_of s.plant s.readings) b))
+  best_columns :
+      (b : Option Candidate) → T (all_kept (data_rules s.plant s.readings)) → BestAmong s.plant (values_of s.plant s.readings) (OwnCandidates s n) b
+      → ProgressColumns s.plant s.readings (Ok (Progress.Finished (best_answer s.plant (values_of s.plant s.readings) b)))
   unfolding best_answer sheet_of sheet_from
-  best_columns Best.NoneYet t h = tt
-  best_columns (Best.At d) t h = (t, two_columns s.plant (values_of s.plant s.readings) d h.1)
+  best_columns None k h = tt
+  best_columns (Some d) k h = (k, two_columns s.plant (values_of s.plant s.readings) d h.1)
 
-  pub advance_columns : AdvancedFrom s n a → ProgressColumns s.plant s.readings a.progress
+  pub advance_columns : AdvancedFrom s n t g → ProgressColumns s.plant s.readings g
   unfolding progress_of
   advance_columns h = go (goes_on s n) refl h
     where
-      moved : (b : Bool) → T (goes_on s n) → Moves (values_of s.plant s.readings) s n a → ltb (s.asked + n) (grid_size s.plant.tank) ≡ b → ProgressColumns s.plant s.readings a.progress
-      moved true t m e = rw (m.progress, e) tt
-      moved false t m e = rw (m.progress, e) (best_columns a.sweep.best (kept_data t) m.best)
+      moved :
+          (b : Bool) → T (goes_on s n) → Moves (values_of s.plant s.readings) s n t g → ltb (s.asked + n) (grid_size s.plant.tank) ≡ b
+          → ProgressColumns s.plant s.readings g
+      moved true k m e = rw (m.progress, e) tt
+      moved false k m e = rw (m.progress, e) (best_columns t.best (kept_data k) m.best)
 
-      go : (b : Bool) → goes_on s n ≡ b → AdvanceBy b (values_of s.plant s.readings) s n a → ProgressColumns s.plant s.readings a.progress
+      go : (b : Bool) → goes_on s n ≡ b → AdvanceBy b (values_of s.plant s.readings) s n t g → ProgressColumns s.plant s.readings g
       go true e m = moved (ltb (s.asked + n) (grid_size s.plant.tank)) (true_kept (goes_on s n) e) m refl
-      go false e m = rw m tt
+      go false e m = rw m.refused tt
 
   best_outcome :
-      (b : Best) → T (goes_on s n) → grid_size s.plant.tank ≤ s.asked + n → BestAmong s.plant (values_of s.plant s.readings) (OwnCandidates s n) b
+      (b : Option Candidate) → T (goes_on s n) → grid_size s.plant.tank ≤ s.asked + n → BestAmong s.plant (values_of s.plant s.readings) (OwnCandidates s n) b
       → AdvanceOutcome s n (answer_number (best_answer s.plant (values_of s.plant s.readings) b)) (answer_sheet (best_answer s.plant (values_of s.plant s.readings) b))
   unfolding best_answer answer_number answer_sheet
-  best_outcome Best.NoneYet t w h =
-      inr (inr (record { refusal = Refusal.NoDesign; is_due = inr (refl, record { goes_on = t; whole = w; none = h }); numbered = refl; zeros = empty_zeros }))
-  best_outcome (Best.At d) t w h =
-      inl (record { numbered = refl; goes_on = t; whole = w; least = best_designed s.plant (values_of s.plant s.readings) (OwnCandidates s n) d h })
+  best_outcome None k w h =
+      inr (inr (record { refusal = Refusal.NoDesign; is_due = inr (refl, record { goes_on = k; whole = w; none = h }); numbered = refl; zeros = empty_zeros }))
+  best_outcome (Some d) k w h =
+      inl (record { numbered = refl; goes_on = k; whole = w; least = best_designed s.plant (values_of s.plant s.readings) (OwnCandidates s n) d h })
 
-  pub advance_outcome : AdvancedFrom s n a → AdvanceOutcome s n (progress_number a.progress) (progress_sheet a.progress)
+  pub advance_outcome : AdvancedFrom s n t g → AdvanceOutcome s n (progress_number g) (progress_sheet g)
   unfolding progress_of progress_number progress_sheet
   advance_outcome h = go (goes_on s n) refl h
     where
-      moved : (b : Bool) → T (goes_on s n) → Moves (values_of s.plant s.readings) s n a → ltb (s.asked + n) (grid_size s.plant.tank) ≡ b → AdvanceOutcome s n (progress_number a.progress) (progress_sheet a.progress)
-      moved true t m e =
+      moved :
+          (b : Bool) → T (goes_on s n) → Moves (values_of s.plant s.readings) s n t g → ltb (s.asked + n) (grid_size s.plant.tank) ≡ b
+          → AdvanceOutcome s n (progress_number g) (progress_sheet g)
+      moved true k m e =
           rw (m.progress, e)
-          (inr (inl (record { numbered = refl; goes_on = t; left = ltb-true (s.asked + n) (grid_size s.plant.tank) e; zeros = empty_zeros })))
-      moved false t m e = rw (m.progress, e) (best_outcome a.sweep.best t (ltb-false (s.asked + n) (grid_size s.plant.tank) e) m.best)
+          (inr (inl (record { numbered = refl; goes_on = k; left = ltb-true (s.asked + n) (grid_size s.plant.tank) e; zeros = empty_zeros })))
+      moved false k m e = rw (m.progress, e) (best_outcome t.best k (ltb-false (s.asked + n) (grid_size s.plant.tank) e) m.best)
 
-      go : (b : Bool) → goes_on s n ≡ b → AdvanceBy b (values_of s.plant s.readings) s n a → AdvanceOutcome s n (progress_number a.progress) (progress_sheet a.progress)
+      go : (b : Bool) → goes_on s n ≡ b → AdvanceBy b (values_of s.plant s.readings) s n t g → AdvanceOutcome s n (progress_number g) (progress_sheet g)
       go true e m = moved (ltb (s.asked + n) (grid_size s.plant.tank)) (true_kept (goes_on s n) e) m refl
-      go false e m = rw m (inr (inr (record { refusal = Refusal.Advance; is_due = inl (refl, e); numbered = refl; zeros = empty_zeros })))
+      go false e m = rw m.refused (inr (inr (record { refusal = Refusal.Advance; is_due = inl (refl, e); numbered = refl; zeros = empty_zeros })))

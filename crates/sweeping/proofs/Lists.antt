@@ -1,6 +1,6 @@
 -- The promise over every list of calls after a start. It follows from the contracts of `advance` and `examine` alone, and knows nothing of
 -- the code. Assumes nothing.
-use mathlib.Core.Path.{◌≡◌, refl, sym, ap, ◌∙◌, subst}
+use mathlib.Core.Path.{◌≡◌, refl, sym, ◌∙◌, subst}
 use mathlib.Core.Logic.{◌↔◌, inl, inr}
 use mathlib.Core.Bool.{Bool, true, false, ◌&&◌}
 use mathlib.Core.List.{List, [], ◌∷◌}
@@ -9,6 +9,7 @@ use native.Mathlib.Omega.{arith}
 use lib.Dec.{T, leb, ltb, le→leb}
 use lib.Ieee.Fits.{and_i}
 use borrow.Author.Tests.{ltb-true, ltb-false, lt-ltb, le-ltb}
+use Rattle.std.specs.Prelude.{Result, Ok, Err, Option, None}
 use Rattle.rules.specs.Limits.{most_advance}
 use Rattle.rules.specs.Rules.{all_kept}
 use Rattle.rules.specs.Accepting.{values_of, data_rules, accept}
@@ -19,22 +20,20 @@ use Rattle.rules.specs.declared.Plant.{Plant}
 use Rattle.rules.specs.declared.Readings.{Readings}
 use Rattle.rules.specs.declared.Concentrations.{Concentrations}
 use Rattle.rules.specs.declared.Candidate.{Candidate}
-use Rattle.rules.specs.declared.Acceptance.{Acceptance}
-use Rattle.rules.specs.declared.Answer.{Answer}
-use Rattle.rules.specs.declared.Best.{Best}
+use Rattle.rules.specs.Results.{Acceptance}
+use Rattle.rules.specs.Results.{Answer}
+use Rattle.rules.specs.declared.Refusal.{Refusal}
 use Rattle.rules.specs.declared.Progress.{Progress}
 use Rattle.rules.proofs.RangeFacts.{grid_ranges}
 use Rattle.rules.proofs.AcceptedData.{accepted_none_due, none_due_accepted}
 use Rattle.rules.proofs.SweepOrder.{order_below, first_whole}
 use Rattle.rules.proofs.BestLaws.{best_chosen, best_same, best_grows, best_kept_lem}
 use Rattle.sweeping.specs.declared.Sweep.{Sweep}
-use Rattle.sweeping.specs.declared.Started.{Started}
-use Rattle.sweeping.specs.declared.Advanced.{Advanced}
-use Rattle.sweeping.specs.Sweeps.{started, start_by, numbers_kept, goes_on_with, goes_on, progress_of, Moves, stays, AdvancedFrom, SweepCall, SweepResponse, Made, asked_after, AdvanceAnswers, AdvanceAnswersBy, Promised}
+use Rattle.sweeping.specs.Sweeps.{started, start_by, numbers_kept, goes_on_with, goes_on, progress_of, Moves, Stays, AdvancedFrom, SweepCall, SweepResponse, Made, asked_after, AdvanceAnswers, AdvanceAnswersBy, Promised}
 use Rattle.sweeping.proofs.AdvanceBy.{true_kept, kept_true, false_left, false_right}
 
 -- a sweep by its parts
-abbrev pub sweep_at : Plant → Readings → ℕ → Best → Sweep
+abbrev pub sweep_at : Plant → Readings → ℕ → Option Candidate → Sweep
 sweep_at p r m b = record { plant = p; readings = r; asked = m; best = b }
 
 module _ (p : Plant) (r : Readings) (kept : T (all_kept (data_rules p r))) where
@@ -45,19 +44,19 @@ module _ (p : Plant) (r : Readings) (kept : T (all_kept (data_rules p r))) where
   size = grid_size p.tank
 
   -- the sweep that calls after a start have reached, once so many candidates have been asked for
-  pub record Reached (asked m : ℕ) (b : Best) : Type 0 where
+  pub record Reached (asked m : ℕ) (b : Option Candidate) : Type 0 where
     pub number : m ≡ min asked size
     pub best : BestAmong p x (First p asked) b
 
   -- before the first call
-  pub at_start : Reached 0 0 Best.NoneYet
+  pub at_start : Reached 0 0 None
   at_start = record { number = omega arith; best = λ y s t. nobody s.before }
     where
       nobody : {n : ℕ} → n < 0 → ⊥
       nobody h = omega arith
 
   -- from there an advance by at most 1,000 is not refused
-  pub reached_goes_on : (asked m n : ℕ) (b : Best) → Reached asked m b → leb n most_advance ≡ true → goes_on (sweep_at p r m b) n ≡ true
+  pub reached_goes_on : (asked m n : ℕ) (b : Option Candidate) → Reached asked m b → leb n most_advance ≡ true → goes_on (sweep_at p r m b) n ≡ true
   unfolding goes_on
   reached_goes_on asked m n b s few =
       kept_true (all_kept (data_rules p r) && goes_on_with x (sweep_at p r m b) n)
@@ -67,7 +66,7 @@ module _ (p : Plant) (r : Readings) (kept : T (all_kept (data_rules p r))) where
       (best_kept_lem p x (First p asked) b s.best)))
 
   -- one above is
-  pub many_refused : (m n : ℕ) (b : Best) → leb n most_advance ≡ false → goes_on (sweep_at p r m b) n ≡ false
+  pub many_refused : (m n : ℕ) (b : Option Candidate) → leb n most_advance ≡ false → goes_on (sweep_at p r m b) n ≡ false
   unfolding goes_on
   many_refused m n b many =
       false_right (all_kept (data_rules p r)) (goes_on_with x (sweep_at p r m b) n)
@@ -88,62 +87,58 @@ module _ (p : Plant) (r : Readings) (kept : T (all_kept (data_rules p r))) where
           inr (record { on_grid = s.on_grid; since = omega (arith, least, e); before = omega (arith, s.before, least, g, e) })
 
   -- one advance by at most 1,000
-  module _ (asked m n : ℕ) (b : Best) (a : Advanced) (s : Reached asked m b) (moves : Moves x (sweep_at p r m b) n a) where
-    pub reached_next : Reached (asked + n) a.sweep.asked a.sweep.best
+  module _ (asked m n : ℕ) (b : Option Candidate) (t : Sweep) (g : Result Progress Refusal) (s : Reached asked m b) (moves : Moves x (sweep_at p r m b) n t g) where
+    pub reached_next : Reached (asked + n) t.asked t.best
     reached_next =
         record {
           number = moves.asked ∙ omega (arith, s.number);
           best =
-              best_same p x (Together (First p asked) (Stretch p m (m + n))) (First p (asked + n)) a.sweep.best (together asked m n s.number)
-              (best_grows p x (First p asked) (Stretch p m (m + n)) b a.sweep.best s.best moves.best);
+              best_same p x (Together (First p asked) (Stretch p m (m + n))) (First p (asked + n)) t.best (together asked m n s.number)
+              (best_grows p x (First p asked) (Stretch p m (m + n)) b t.best s.best moves.best);
         }
 
-    pub answers : AdvanceAnswers p r (asked + n) a.progress
+    pub answers : AdvanceAnswers p r (asked + n) g
     unfolding progress_of
     answers = record { unfinished = λ h. unfinished h; finished = λ h. finished h }
       where
-        unfinished : asked + n < size → (c : Best) × (a.progress ≡ Progress.Unfinished c) × BestAmong p x (First p (asked + n)) c
+        unfinished : asked + n < size → (c : Option Candidate) × (g ≡ Ok (Progress.Unfinished c)) × BestAmong p x (First p (asked + n)) c
         unfinished h =
             let l : m + n < size = omega (arith, s.number) in
-            (a.sweep.best, moves.progress ∙ rw (lt-ltb (m + n) size l), reached_next.best)
+            (t.best, moves.progress ∙ rw (lt-ltb (m + n) size l), reached_next.best)
 
-        chosen : size ≤ asked + n → ChosenAmong p x (grid p) (best_answer p x a.sweep.best)
-        chosen h = best_chosen p x (grid p) a.sweep.best (best_same p x (First p (asked + n)) (grid p) a.sweep.best (first_whole p (asked + n) h) reached_next.best)
+        chosen : size ≤ asked + n → ChosenAmong p x (grid p) (best_answer p x t.best)
+        chosen h = best_chosen p x (grid p) t.best (best_same p x (First p (asked + n)) (grid p) t.best (first_whole p (asked + n) h) reached_next.best)
 
-        finished : size ≤ asked + n → (c : Answer) × (a.progress ≡ Progress.Finished c) × Chosen p r c
+        finished : size ≤ asked + n → (c : Answer) × (g ≡ Ok (Progress.Finished c)) × Chosen p r c
         finished h =
             let l : size ≤ m + n = omega (arith, s.number) in
-            (best_answer p x a.sweep.best, moves.progress ∙ rw (le-ltb (m + n) size l), rw (none_due_accepted p r kept) (chosen h))
+            (best_answer p x t.best, moves.progress ∙ rw (le-ltb (m + n) size l), rw (none_due_accepted p r kept) (chosen h))
 
   -- an advance before a list for which the promise holds
   after_advance :
-      (calls : List SweepCall) (responses : List SweepResponse) (asked m n : ℕ) (b : Best) (t : Sweep) (g : Progress)
+      (calls : List SweepCall) (responses : List SweepResponse) (asked m n : ℕ) (b : Option Candidate) (t : Sweep) (g : Result Progress Refusal)
       → Reached asked m b
-      → AdvancedFrom (sweep_at p r m b) n (record { sweep = t; progress = g })
-      → ((k c : ℕ) (u : Best) → Reached k c u → Made (sweep_at p r c u) calls responses → Promised p r k calls responses)
+      → AdvancedFrom (sweep_at p r m b) n t g
+      → ((k c : ℕ) (u : Option Candidate) → Reached k c u → Made (sweep_at p r c u) calls responses → Promised p r k calls responses)
       → Made t calls responses
       → (q : Bool)
       → leb n most_advance ≡ q
       → AdvanceAnswersBy (leb n most_advance) p r (asked + n) g × Promised p r (asked_after asked n) calls responses
   unfolding asked_after
   after_advance calls responses asked m n b t g s step later made true e =
-      let a : Advanced = record { sweep = t; progress = g } in
-      let moves : Moves x (sweep_at p r m b) n a = rw (reached_goes_on asked m n b s e) at step in
+      let moves : Moves x (sweep_at p r m b) n t g = rw (reached_goes_on asked m n b s e) at step in
       let own : t ≡ sweep_at p r t.asked t.best = λ i. record { plant = moves.plant i; readings = moves.readings i; asked = t.asked; best = t.best } in
       rw e (
-        answers asked m n b a s moves,
-        later (asked + n) t.asked t.best (reached_next asked m n b a s moves) (subst (λ (u : Sweep). Made u calls responses) own made),
+        answers asked m n b t g s moves,
+        later (asked + n) t.asked t.best (reached_next asked m n b t g s moves) (subst (λ (u : Sweep). Made u calls responses) own made),
       )
   after_advance calls responses asked m n b t g s step later made false e =
-      let stay : ◌≡◌ {A = Advanced} (record { sweep = t; progress = g }) (stays (sweep_at p r m b)) = rw (many_refused m n b e) at step in
-      rw e (
-        ap (λ (a : Advanced). a.progress) stay,
-        later asked m b s (subst (λ (u : Sweep). Made u calls responses) (ap (λ (a : Advanced). a.sweep) stay) made),
-      )
+      let stay : Stays (sweep_at p r m b) t g = rw (many_refused m n b e) at step in
+      rw e (stay.refused, later asked m b s (subst (λ (u : Sweep). Made u calls responses) stay.sweep made))
 
   -- every list from there
   pub from_reached :
-      (calls : List SweepCall) (responses : List SweepResponse) (asked m : ℕ) (b : Best)
+      (calls : List SweepCall) (responses : List SweepResponse) (asked m : ℕ) (b : Option Candidate)
       → Reached asked m b
       → Made (sweep_at p r m b) calls responses
       → Promised p r asked calls responses
@@ -161,16 +156,16 @@ module _ (p : Plant) (r : Readings) (kept : T (all_kept (data_rules p r))) where
 
 -- After every start and every list of calls: what is promised of each of them.
 pub every_list :
-    (p : Plant) (r : Readings) (s : Sweep) → started p r ≡ Started.Sweep s
+    (p : Plant) (r : Readings) (s : Sweep) → started p r ≡ Ok s
     → (calls : List SweepCall) (responses : List SweepResponse)
     → Made s calls responses
     → Promised p r 0 calls responses
 unfolding started start_by
 every_list p r s e calls responses made = go (accept p r) refl e
   where
-    go : (o : Acceptance) → accept p r ≡ o → start_by p r o ≡ Started.Sweep s → Promised p r 0 calls responses
-    go (Acceptance.Refused n) q h = absurd (let z : ◌≡◌ {A = ℕ} 0 1 = cc in omega arith)
-    go (Acceptance.Accepted x) q h =
-        let own : sweep_at p r 0 Best.NoneYet ≡ s = cc in
-        from_reached p r (accepted_none_due p r x q).0 calls responses 0 0 Best.NoneYet (at_start p r (accepted_none_due p r x q).0)
+    go : (o : Acceptance) → accept p r ≡ o → start_by p r o ≡ Ok s → Promised p r 0 calls responses
+    go (Err n) q h = absurd (let z : ◌≡◌ {A = ℕ} 0 1 = cc in omega arith)
+    go (Ok x) q h =
+        let own : sweep_at p r 0 None ≡ s = cc in
+        from_reached p r (accepted_none_due p r x q).0 calls responses 0 0 None (at_start p r (accepted_none_due p r x q).0)
         (subst (λ (t : Sweep). Made t calls responses) (sym own) made)

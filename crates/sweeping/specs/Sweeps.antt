@@ -1,6 +1,6 @@
 -- Document 02, a sweep that can be put down: what a start and an advance answer, from any sweep that is handed on, and what is
 -- promised over every list of calls after a start. Assumes nothing.
-use Rattle.std.specs.Prelude.{ℕ, ◌+◌, ◌≤◌, ◌<◌, min, ◌⊎◌, ◌≡◌, Bool, true, false, ◌&&◌, cond, List, [], ◌∷◌, T, leb, ltb}
+use Rattle.std.specs.Prelude.{ℕ, ◌+◌, ◌≤◌, ◌<◌, min, ◌⊎◌, ◌≡◌, Bool, true, false, ◌&&◌, cond, List, [], ◌∷◌, T, leb, ltb, Result, Ok, Err, Option, None}
 use Rattle.rules.specs.Limits.{most_advance}
 use Rattle.rules.specs.Rules.{all_kept}
 use Rattle.rules.specs.Accepting.{values_of, data_rules, accept}
@@ -18,20 +18,17 @@ use Rattle.rules.specs.declared.Concentrations.{Concentrations}
 use Rattle.rules.specs.declared.Candidate.{Candidate}
 use Rattle.rules.specs.declared.Sheet.{Sheet}
 use Rattle.rules.specs.declared.Refusal.{Refusal}
-use Rattle.rules.specs.declared.Acceptance.{Acceptance}
-use Rattle.rules.specs.declared.Answer.{Answer}
-use Rattle.rules.specs.declared.Best.{Best}
+use Rattle.rules.specs.Results.{Acceptance}
+use Rattle.rules.specs.Results.{Answer}
 use Rattle.rules.specs.declared.Progress.{Progress}
 use Rattle.sweeping.specs.declared.Sweep.{Sweep}
-use Rattle.sweeping.specs.declared.Started.{Started}
-use Rattle.sweeping.specs.declared.Advanced.{Advanced}
 
 -- A start, once the data have their answer: their refusal, or a sweep that has asked for nothing.
-unfoldable pub start_by : Plant → Readings → Acceptance → Started
-start_by p r (Acceptance.Refused n) = Started.Refused n
-start_by p r (Acceptance.Accepted x) = Started.Sweep (record { plant = p; readings = r; asked = 0; best = Best.NoneYet })
+unfoldable pub start_by : Plant → Readings → Acceptance → Result Sweep Refusal
+start_by p r (Err n) = Err n
+start_by p r (Ok x) = Ok (record { plant = p; readings = r; asked = 0; best = None })
 
-unfoldable pub started : Plant → Readings → Started
+unfoldable pub started : Plant → Readings → Result Sweep Refusal
 started p r = start_by p r (accept p r)
 
 -- what is asked of an advance by n besides its data: at most 1,000 candidates, a number of the grid's ..
@@ -51,35 +48,36 @@ abbrev pub OwnCandidates : Sweep → ℕ → Candidates
 OwnCandidates s n = Together (HandedOn s.best) (Stretch s.plant s.asked (s.asked + n))
 
 -- what an advance says: unfinished, with the best, or what the best answers
-unfoldable pub progress_of : Bool → Plant → Concentrations → Best → Progress
+unfoldable pub progress_of : Bool → Plant → Concentrations → Option Candidate → Progress
 progress_of true p x b = Progress.Unfinished b
 progress_of false p x b = Progress.Finished (best_answer p x b)
 
--- An advance that is not refused, from any sweep: the number grows by n, up to the grid's; the best is that of the candidates that it
--- goes by; it says "unfinished" exactly while the number is below the grid's.
-pub record Moves (x : Concentrations) (s : Sweep) (n : ℕ) (a : Advanced) : Type 0 where
-  pub plant : a.sweep.plant ≡ s.plant
-  pub readings : a.sweep.readings ≡ s.readings
-  pub asked : a.sweep.asked ≡ min (s.asked + n) (grid_size s.plant.tank)
-  pub best : BestAmong s.plant x (OwnCandidates s n) a.sweep.best
-  pub progress : a.progress ≡ progress_of (ltb (s.asked + n) (grid_size s.plant.tank)) s.plant x a.sweep.best
+-- An advance that is not refused, from any sweep s to a sweep t with the answer g: the number grows by n, up to the grid's; the best is
+-- that of the candidates that it goes by; it says "unfinished" exactly while the number is below the grid's.
+pub record Moves (x : Concentrations) (s : Sweep) (n : ℕ) (t : Sweep) (g : Result Progress Refusal) : Type 0 where
+  pub plant : t.plant ≡ s.plant
+  pub readings : t.readings ≡ s.readings
+  pub asked : t.asked ≡ min (s.asked + n) (grid_size s.plant.tank)
+  pub best : BestAmong s.plant x (OwnCandidates s n) t.best
+  pub progress : g ≡ Ok (progress_of (ltb (s.asked + n) (grid_size s.plant.tank)) s.plant x t.best)
 
 -- an advance refused: 19, and nothing is moved
-abbrev pub stays : Sweep → Advanced
-stays s = record { sweep = s; progress = Progress.Refused Refusal.Advance }
+pub record Stays (s t : Sweep) (g : Result Progress Refusal) : Type 0 where
+  pub sweep : t ≡ s
+  pub refused : g ≡ Err Refusal.Advance
 
-abbrev pub AdvanceBy : Bool → Concentrations → Sweep → ℕ → Advanced → Type 0
-AdvanceBy true x s n a = Moves x s n a
-AdvanceBy false x s n a = a ≡ stays s
+abbrev pub AdvanceBy : Bool → Concentrations → Sweep → ℕ → Sweep → Result Progress Refusal → Type 0
+AdvanceBy true x s n t g = Moves x s n t g
+AdvanceBy false x s n t g = Stays s t g
 
-abbrev pub AdvancedFrom : Sweep → ℕ → Advanced → Type 0
-AdvancedFrom s n a = AdvanceBy (goes_on s n) (values_of s.plant s.readings) s n a
+abbrev pub AdvancedFrom : Sweep → ℕ → Sweep → Result Progress Refusal → Type 0
+AdvancedFrom s n t g = AdvanceBy (goes_on s n) (values_of s.plant s.readings) s n t g
 
 -- the two columns of the sheet that a finished sweep answers with
-abbrev pub ProgressColumns : Plant → Readings → Progress → Type 0
-ProgressColumns p r (Progress.Finished a) = TwoColumns p r a
-ProgressColumns p r (Progress.Unfinished b) = Unit {0}
-ProgressColumns p r (Progress.Refused n) = Unit {0}
+abbrev pub ProgressColumns : Plant → Readings → Result Progress Refusal → Type 0
+ProgressColumns p r (Ok (Progress.Finished a)) = TwoColumns p r a
+ProgressColumns p r (Ok (Progress.Unfinished b)) = Unit {0}
+ProgressColumns p r (Err n) = Unit {0}
 
 -- What the number and the sheet of an advance's answer are: the least design of the candidates that it goes by ..
 pub record Ends (s : Sweep) (n number : ℕ) (sheet : Sheet) : Type 0 where
@@ -115,12 +113,12 @@ pub data SweepCall : Type 0 where
   look : Candidate → SweepCall
 
 pub data SweepResponse : Type 0 where
-  moved : Progress → SweepResponse
+  moved : Result Progress Refusal → SweepResponse
   looked : Answer → SweepResponse
 
 -- one call takes a sweep to another: an advance keeps its contract; an examination gets its usual answer and moves nothing
 abbrev pub Takes : Sweep → SweepCall → SweepResponse → Sweep → Type 0
-Takes s (SweepCall.advance n) (SweepResponse.moved g) t = AdvancedFrom s n (record { sweep = t; progress = g })
+Takes s (SweepCall.advance n) (SweepResponse.moved g) t = AdvancedFrom s n t g
 Takes s (SweepCall.look y) (SweepResponse.looked a) t = (a ≡ examine s.plant s.readings y) × (t ≡ s)
 Takes s (SweepCall.advance n) (SweepResponse.looked a) t = ⊥
 Takes s (SweepCall.look y) (SweepResponse.moved g) t = ⊥
@@ -138,14 +136,14 @@ asked_after asked n = cond (leb n most_advance) (asked + n) asked
 
 -- What an advance answers once so many candidates have been asked for, itself included: unfinished, with the best of them, exactly
 -- while they are fewer than the grid holds; from then on what choosing answers.
-pub record AdvanceAnswers (p : Plant) (r : Readings) (asked : ℕ) (g : Progress) : Type 0 where
-  pub unfinished : asked < grid_size p.tank → (b : Best) × (g ≡ Progress.Unfinished b) × BestAmong p (values_of p r) (First p asked) b
-  pub finished : grid_size p.tank ≤ asked → (a : Answer) × (g ≡ Progress.Finished a) × Chosen p r a
+pub record AdvanceAnswers (p : Plant) (r : Readings) (asked : ℕ) (g : Result Progress Refusal) : Type 0 where
+  pub unfinished : asked < grid_size p.tank → (b : Option Candidate) × (g ≡ Ok (Progress.Unfinished b)) × BestAmong p (values_of p r) (First p asked) b
+  pub finished : grid_size p.tank ≤ asked → (a : Answer) × (g ≡ Ok (Progress.Finished a)) × Chosen p r a
 
 -- an advance above 1,000 is refused, and only such a one is
-abbrev pub AdvanceAnswersBy : Bool → Plant → Readings → ℕ → Progress → Type 0
+abbrev pub AdvanceAnswersBy : Bool → Plant → Readings → ℕ → Result Progress Refusal → Type 0
 AdvanceAnswersBy true p r asked g = AdvanceAnswers p r asked g
-AdvanceAnswersBy false p r asked g = g ≡ Progress.Refused Refusal.Advance
+AdvanceAnswersBy false p r asked g = g ≡ Err Refusal.Advance
 
 -- The promise over a list of calls, with the number of candidates asked for before it.
 abbrev pub Promised : Plant → Readings → ℕ → List SweepCall → List SweepResponse → Type 0

@@ -2,25 +2,24 @@
 // examinations between them. Its state is the plant data, the readings, the number asked for and the best so far, and nothing else.
 #![tactic(auto)]
 
-ghost use Rattle.std.specs.Prelude.{◌≡◌, false, ◌+◌, ◌-◌, ◌≤◌, ◌<◌, min, T};
-ghost use Rattle.rules.specs.Limits.{most_advance, least_fraction, most_fraction, most_ratio, most_time, most_mass, most_figure};
-ghost use Rattle.rules.specs.AgeNitrate.{largest_return_ratio};
-ghost use Rattle.rules.specs.Accepting.{accept};
+ghost use Rattle.std.specs.Prelude.{◌≡◌, false, ◌+◌, ◌≤◌, ◌<◌, T, Ok};
+ghost use Rattle.rules.specs.Limits.{most_advance, least_fraction, most_fraction};
 ghost use Rattle.rules.specs.Examining.{examine};
-ghost use Rattle.rules.specs.Ranges.{Between, GridFraction, PlantRanges, ConcentrationRanges};
+ghost use Rattle.rules.specs.Ranges.{GridFraction};
 ghost use Rattle.rules.specs.Answers.{answer_number, answer_sheet, progress_number, progress_sheet};
 ghost use Rattle.rules.specs.Outcomes.{Examined};
 ghost use Rattle.rules.specs.TwoColumns.{TwoColumns};
 ghost use Rattle.rules.specs.Census.{grid_size};
-ghost use Rattle.rules.specs.Sweep.{per_fraction, HandedOn, Stretch, best_kept, best_answer};
-ghost use Rattle.reactor.specs.Seasons.{SeasonsAt};
-ghost use Rattle.choosing.specs.Keys.{none_yet, key_of, first_place, LeastKey, Visited, Filled};
-ghost use Rattle.sweeping.specs.Sweeps.{started, stays, AdvancedFrom, Moves, AdvanceBy, AdvanceOutcome, ProgressColumns, numbers_kept, goes_on_with};
-ghost use Rattle.sweeping.specs.Spots.{NoneCovered, spot_of, SpotsInOrder, tank_place, TanksMost, run_key, key_best, HandedKey};
+ghost use Rattle.rules.specs.Sweep.{per_fraction, best_kept, best_answer};
+ghost use Rattle.choosing.specs.Runs.{LeastOfRun};
+ghost use Rattle.sweeping.specs.Sweeps.{started, AdvancedFrom, Moves, AdvanceOutcome, ProgressColumns, numbers_kept};
+ghost use Rattle.sweeping.specs.Spots.{NoneCovered, spot_of, LeastOfStretch, HandedKey, LeastOfHandedOn};
 
+use choosing::{Key, MOST_TANKS, Tanks, kept_mass, lesser};
+use reactor::Basis;
 use rules::{
-    Acceptance, Answer, Best, Candidate, Concentrations, Plant, Progress, Readings, Refusal,
-    TankFlow,
+    Accepted, Answer, Candidate, LEAST_FRACTION, MOST_ADVANCE, MOST_FRACTION, Plant, Progress,
+    Readings, Refusal, TankFlow,
 };
 
 // What a sweep hands on.
@@ -30,21 +29,14 @@ pub struct Sweep {
     pub readings: Readings,
     // candidates asked for, at most as many as the grid has
     pub asked: u32,
-    pub best: Best,
-}
-
-// What a start answers: the refusal of the data, or a sweep.
-#[derive(Clone, Copy)]
-pub enum Started {
-    Refused(Refusal),
-    Sweep(Sweep),
+    pub best: Option<Candidate>,
 }
 
 // The sweep after an advance, and what the advance answers.
 #[derive(Clone, Copy)]
 pub struct Advanced {
     pub sweep: Sweep,
-    pub progress: Progress,
+    pub progress: Result<Progress, Refusal>,
 }
 
 // A place of the sweep's order: the fraction, and the tank's place in the table.
@@ -54,24 +46,22 @@ pub struct Spot {
     pub tank: u32,
 }
 
-// The key of a best that is handed on, or that it is not permitted.
-#[derive(Clone, Copy)]
-pub enum Handed {
-    Key(u64),
-    NotPermitted,
-}
-
-// How many candidates of the grid have one fraction.
-fn per_fraction(flow: TankFlow) -> u32
-    ensures { result ≡ per_fraction flow }
-{
-    match flow {
-        TankFlow::Horizontal => 276,
-        TankFlow::Vertical => 426,
+impl Spot {
+    // The spot of a place of the order.
+    fn at(flow: TankFlow, i: u32) -> Spot
+        requires { i ≤ 128_226 }
+        ensures { result ≡ spot_of flow i }
+    {
+        let tanks = choosing::per_fraction(flow);
+        Spot {
+            fraction: LEAST_FRACTION + i / tanks,
+            tank: i % tanks,
+        }
     }
 }
 
 // How many candidates the grid has.
+#[tactic(auto, unfolding(rules::specs::Census::grid_size))]
 fn grid_size(flow: TankFlow) -> u32
     ensures { (result ≡ grid_size flow) × (result ≤ 128_226) }
 {
@@ -85,325 +75,159 @@ fn grid_size(flow: TankFlow) -> u32
 fn numbers_kept(flow: TankFlow, asked: u32, n: u32) -> bool
     ensures { result ≡ numbers_kept flow asked n }
 {
-    (n <= rules::MOST_ADVANCE) & (asked <= grid_size(flow))
-}
-
-// The spot of a place of the order.
-fn spot_at(flow: TankFlow, i: u32) -> Spot
-    requires { i ≤ 128_226 }
-    ensures { result ≡ spot_of flow i }
-{
-    match flow {
-        TankFlow::Horizontal => Spot {
-            fraction: rules::LEAST_FRACTION + i / 276,
-            tank: i % 276,
-        },
-        TankFlow::Vertical => Spot {
-            fraction: rules::LEAST_FRACTION + i / 426,
-            tank: i % 426,
-        },
-    }
-}
-
-// The smaller of two numbers.
-fn smaller(a: u32, b: u32) -> u32
-    ensures { result ≡ min a b }
-{
-    if a <= b { a } else { b }
-}
-
-// The lesser of two keys.
-fn lesser(a: u64, b: u64) -> u64
-    ensures { result ≡ min a b }
-{
-    if a <= b { a } else { b }
+    (n <= MOST_ADVANCE) & (asked <= grid_size(flow))
 }
 
 // Some fraction from the first to the last is covered.
-fn any_covered(
-    plant: Plant,
-    concentrations: Concentrations,
-    seasons: reactor::Seasons,
-    first: u32,
-    last: u32,
-) -> bool
-    requires { PlantRanges plant × ConcentrationRanges concentrations × SeasonsAt plant concentrations seasons
-        × (least_fraction ≤ first) × (last ≤ most_fraction) }
-    ensures { result ≡ false → NoneCovered plant concentrations first (last + 1) }
+fn any_covered(basis: &Basis, first: u32, last: u32) -> bool
+    requires { (least_fraction ≤ first) × (last ≤ most_fraction) }
+    ensures { result ≡ false → NoneCovered basis.now.data first (last + 1) }
 {
-    let mut covered = false;
-    'fraction: for f in first..last + 1 {
-        let mass = choosing::kept_mass(plant, concentrations, seasons, f);
-        covered = covered | (mass < choosing::NONE_YET);
+    'fraction: for f in first..=last {
+        if kept_mass(basis, f).is_some() {
+            return true;
+        }
     }
-    covered
+    false
 }
 
-// The least key at a covered fraction over the tanks from a place of the table on, before another, or NONE_YET.
-fn run(table: &[u64], mass: u64, fraction: u32, from: u32, to: u32) -> u64
-    requires { (mass ≤ most_mass) × (fraction ≤ most_fraction) × (from ≤ to) × (to ≤ 426) × TanksMost table.now to }
-    ensures { result ≡ run_key table.now mass fraction from (to - from) none_yet }
-{
-    let mut best = choosing::NONE_YET;
-    'tank: for i in from..to {
-        let tank = choosing::tank_at(table, i as usize);
-        let r = rules::LEAST_RATIO + i / 6;
-        let h = rules::LEAST_TIME + i % 6;
-        best = choosing::improved(best, mass, tank, fraction, r, h);
-    }
-    best
-}
-
-// The least key over the tanks of one fraction from a place of the table on, before another, or NONE_YET.
-fn part(
-    plant: Plant,
-    concentrations: Concentrations,
-    seasons: reactor::Seasons,
-    table: &[u64],
-    fraction: u32,
-    from: u32,
-    to: u32,
-) -> u64
-    requires { PlantRanges plant × ConcentrationRanges concentrations × SeasonsAt plant concentrations seasons
-        × Filled plant (largest_return_ratio plant.tank) table.now × (from ≤ to) × (to ≤ per_fraction plant.tank) × (from < to → GridFraction fraction) }
-    ensures { LeastKey plant concentrations (Visited plant (tank_place fraction from) (tank_place fraction to)) result }
+// The least key over the tanks of one fraction from a place of the table on, before another.
+fn part(tanks: &Tanks, fraction: u32, from: u32, to: u32) -> Option<Key>
+    requires { (from ≤ to) × (to ≤ per_fraction tanks.now.basis.now.data.plant.tank) × (from < to → GridFraction fraction) }
+    ensures { LeastOfRun tanks.now.basis.now.data fraction from to result }
 {
     if to <= from {
-        return choosing::NONE_YET;
+        return None;
     }
-    let mass = choosing::kept_mass(plant, concentrations, seasons, fraction);
-    if mass == choosing::NONE_YET {
-        return choosing::NONE_YET;
-    }
-    run(table, mass, fraction, from, to)
+    let mass = kept_mass(tanks.basis, fraction)?;
+    tanks.run(mass, fraction, from, to)
 }
 
-// The least key over the fractions from the first on, before the one past them, or NONE_YET. A fraction that is not covered, or that is no
-// lighter than a covered one of them before it, is left at its label.
-fn fractions(
-    plant: Plant,
-    concentrations: Concentrations,
-    seasons: reactor::Seasons,
-    table: &[u64],
-    first: u32,
-    past: u32,
-) -> u64
-    requires { PlantRanges plant × ConcentrationRanges concentrations × SeasonsAt plant concentrations seasons
-        × Filled plant (largest_return_ratio plant.tank) table.now × Between least_fraction past first × (past ≤ most_fraction + 1) }
-    ensures { LeastKey plant concentrations (Visited plant (first_place first) (first_place past)) result }
+// The least key over a stretch of the order: the end of one fraction, whole fractions, the beginning of one.
+fn between(tanks: &Tanks, from: u32, to: u32) -> Option<Key>
+    requires { (from ≤ to) × (to ≤ grid_size tanks.now.basis.now.data.plant.tank) }
+    ensures { LeastOfStretch tanks.now.basis.now.data from to result }
 {
-    let flow = plant.tank;
-    let tanks = per_fraction(flow);
-    let mut best = choosing::NONE_YET;
-    let mut lightest = choosing::NONE_YET;
-    'fraction: for f in first..past {
-        let mass = choosing::kept_mass(plant, concentrations, seasons, f);
-        if lightest <= mass {
-            continue 'fraction;
-        }
-        lightest = mass;
-        best = lesser(best, run(table, mass, f, 0, tanks));
+    let flow = tanks.basis.data.plant.tank;
+    let first = Spot::at(flow, from);
+    let past = Spot::at(flow, to);
+    if first.fraction == past.fraction {
+        return part(tanks, first.fraction, first.tank, past.tank);
     }
-    best
-}
-
-// The least key over the candidates from one spot on, before another.
-fn between(
-    plant: Plant,
-    concentrations: Concentrations,
-    seasons: reactor::Seasons,
-    table: &[u64],
-    first: Spot,
-    past: Spot,
-) -> u64
-    requires { PlantRanges plant × ConcentrationRanges concentrations × SeasonsAt plant concentrations seasons
-        × Filled plant (largest_return_ratio plant.tank) table.now × SpotsInOrder plant.tank first past }
-    ensures { LeastKey plant concentrations (Visited plant (tank_place first.fraction first.tank) (tank_place past.fraction past.tank)) result }
-{
-    let f = first.fraction;
-    let from = first.tank;
-    let g = past.fraction;
-    let to = past.tank;
-    if f == g {
-        return part(plant, concentrations, seasons, table, f, from, to);
-    }
-    let flow = plant.tank;
-    let end = per_fraction(flow);
-    let head = part(plant, concentrations, seasons, table, f, from, end);
-    let whole = fractions(plant, concentrations, seasons, table, f + 1, g);
-    let tail = part(plant, concentrations, seasons, table, g, 0, to);
+    let head = part(
+        tanks,
+        first.fraction,
+        first.tank,
+        choosing::per_fraction(flow),
+    );
+    let whole = tanks.fractions(first.fraction + 1, past.fraction);
+    let tail = part(tanks, past.fraction, 0, past.tank);
     lesser(lesser(head, whole), tail)
 }
 
-// The same, with the table made for it. Apart from what returns before a table is needed: with that, two tables would lie on the stack.
-fn tanks_between(
-    plant: Plant,
-    concentrations: Concentrations,
-    seasons: reactor::Seasons,
-    first: Spot,
-    past: Spot,
-) -> u64
-    requires { PlantRanges plant × ConcentrationRanges concentrations × SeasonsAt plant concentrations seasons
-        × SpotsInOrder plant.tank first past }
-    ensures { LeastKey plant concentrations (Visited plant (tank_place first.fraction first.tank) (tank_place past.fraction past.tank)) result }
+// The same. The tanks are looked at only where some fraction of the stretch is covered.
+fn stretch(basis: &Basis, from: u32, to: u32) -> Option<Key>
+    requires { (from ≤ to) × (to ≤ grid_size basis.now.data.plant.tank) }
+    ensures { LeastOfStretch basis.now.data from to result }
 {
-    let bottoms = choosing::bottoms(plant.sludge_volume_index);
-    let flow = plant.tank;
-    let last = examining::largest_return_ratio(flow);
-    let table = choosing::tanks(plant, last, bottoms);
-    between(plant, concentrations, seasons, &table, first, past)
-}
-
-// The least key over a stretch of the order, or NONE_YET where nothing of it is permitted. The tanks are looked at only where some
-// fraction of it is covered.
-fn stretch(plant: Plant, concentrations: Concentrations, from: u32, to: u32) -> u64
-    requires { PlantRanges plant × ConcentrationRanges concentrations × (from ≤ to) × (to ≤ grid_size plant.tank) }
-    ensures { LeastKey plant concentrations (Stretch plant from to) result }
-{
-    let flow = plant.tank;
-    let seasons = reactor::seasons_of(plant, concentrations);
-    let first = spot_at(flow, from);
-    let past = spot_at(flow, to);
-    let last = smaller(past.fraction, rules::MOST_FRACTION);
-    if !any_covered(plant, concentrations, seasons, first.fraction, last) {
-        return choosing::NONE_YET;
+    let flow = basis.data.plant.tank;
+    let first = Spot::at(flow, from);
+    let past = Spot::at(flow, to);
+    if !any_covered(basis, first.fraction, past.fraction.min(MOST_FRACTION)) {
+        return None;
     }
-    tanks_between(plant, concentrations, seasons, first, past)
+    let mut table = [None; MOST_TANKS];
+    let tanks = Tanks::new(basis, &mut table);
+    between(&tanks, from, to)
 }
 
-// The order of choosing as one number.
-fn key_of(total: u64, fraction: u32, return_ratio: u32, thickening: u32) -> u64
-    requires { (total ≤ most_figure) × (fraction ≤ most_fraction) × (return_ratio ≤ most_ratio) × (thickening ≤ most_time) }
-    ensures { result ≡ key_of total fraction return_ratio thickening }
+// The key of a best that is handed on, which is examined again: a refusal where it is not permitted.
+fn handed_on(accepted: &Accepted, best: Option<Candidate>) -> Result<Option<Key>, Refusal>
+    ensures { HandedKey accepted.now best result }
 {
-    total * 2_097_152 + (fraction as u64 * 4_096 + return_ratio as u64 * 32 + thickening as u64)
-}
-
-// The key of a best that is handed on, which is examined again.
-fn handed_on(plant: Plant, concentrations: Concentrations, best: Best) -> Handed
-    requires { PlantRanges plant × ConcentrationRanges concentrations }
-    ensures { HandedKey plant concentrations best result }
-{
-    match best {
-        Best::NoneYet => Handed::Key(choosing::NONE_YET),
-        Best::At(candidate) => match examining::judge(plant, concentrations, candidate) {
-            Answer::Refused(_) => Handed::NotPermitted,
-            Answer::Designed(sheet) => Handed::Key(key_of(
-                sheet.total,
-                candidate.fraction,
-                candidate.return_ratio,
-                candidate.thickening,
-            )),
-        },
-    }
-}
-
-// The best that a key names.
-fn key_best(key: u64) -> Best
-    ensures { result ≡ key_best key }
-{
-    if key == choosing::NONE_YET {
-        return Best::NoneYet;
-    }
-    Best::At(choosing::key_candidate(key))
+    let Some(candidate) = best else {
+        return Ok(None);
+    };
+    let sheet = examining::judge(accepted, candidate)?;
+    Ok(Some(Key {
+        total: sheet.total,
+        fraction: candidate.fraction,
+        return_ratio: candidate.return_ratio,
+        thickening: candidate.thickening,
+    }))
 }
 
 // What a best answers once nothing is left to ask for.
-fn best_answer(plant: Plant, concentrations: Concentrations, best: Best) -> Answer
-    requires { PlantRanges plant × ConcentrationRanges concentrations × T (best_kept plant concentrations best) }
-    ensures { result ≡ best_answer plant concentrations best }
+fn best_answer(accepted: &Accepted, best: Option<Candidate>) -> Answer
+    requires { T (best_kept accepted.now.plant accepted.now.concentrations best) }
+    ensures { result ≡ best_answer accepted.now.plant accepted.now.concentrations best }
 {
     match best {
-        Best::NoneYet => Answer::Refused(Refusal::NoDesign),
-        Best::At(candidate) => examining::judge(plant, concentrations, candidate),
+        None => Err(Refusal::NoDesign),
+        Some(candidate) => examining::judge(accepted, candidate),
     }
 }
 
 impl Sweep {
     // Starts on plant data and readings: their usual refusal and no sweep, or a sweep that has asked for nothing.
-    pub fn new(plant: Plant, readings: Readings) -> Started
+    pub fn new(plant: Plant, readings: Readings) -> Result<Sweep, Refusal>
         ensures { result ≡ started plant readings }
     {
-        match accepting::accept(plant, readings) {
-            Acceptance::Refused(refusal) => Started::Refused(refusal),
-            Acceptance::Accepted(_) => Started::Sweep(Sweep {
-                plant,
-                readings,
-                asked: 0,
-                best: Best::NoneYet,
-            }),
-        }
-    }
-
-    // An advance refused moves nothing.
-    fn stay(self) -> Advanced
-        ensures { result ≡ stays self }
-    {
-        Advanced {
-            sweep: self,
-            progress: Progress::Refused(Refusal::Advance),
-        }
+        accepting::accept(plant, readings)?;
+        Ok(Sweep {
+            plant,
+            readings,
+            asked: 0,
+            best: None,
+        })
     }
 
     // An advance that is not refused, with the key of the best that is handed on.
-    fn go_on(mut self, concentrations: Concentrations, n: u32, key: u64) -> Advanced
-        requires { PlantRanges self.plant × ConcentrationRanges concentrations × (n ≤ most_advance) × (self.asked ≤ grid_size self.plant.tank)
-            × LeastKey self.plant concentrations (HandedOn self.best) key × T (best_kept self.plant concentrations self.best) }
-        ensures { Moves concentrations self n result }
+    fn go_on(&mut self, accepted: &Accepted, n: u32, key: Option<Key>) -> Progress
+        requires { (accepted.now.plant ≡ self.old.plant) × (n ≤ most_advance) × (self.old.asked ≤ grid_size self.old.plant.tank)
+            × LeastOfHandedOn accepted.now self.old.best key × T (best_kept accepted.now.plant accepted.now.concentrations self.old.best) }
+        ensures { Moves accepted.now.concentrations self.old n self.new (Ok result) }
     {
-        let plant = self.plant;
-        let readings = self.readings;
-        let asked = self.asked;
-        let flow = plant.tank;
-        let size = grid_size(flow);
-        let to = smaller(asked + n, size);
-        let best = key_best(lesser(key, stretch(plant, concentrations, asked, to)));
-        self = Sweep {
-            plant,
-            readings,
-            asked: to,
-            best,
-        };
+        let basis = Basis::new(*accepted);
+        let size = grid_size(self.plant.tank);
+        let to = (self.asked + n).min(size);
+        let best = lesser(key, stretch(&basis, self.asked, to)).map(Key::candidate);
+        self.asked = to;
+        self.best = best;
         if to < size {
-            return Advanced {
-                sweep: self,
-                progress: Progress::Unfinished(best),
-            };
+            return Progress::Unfinished(best);
         }
-        Advanced {
-            sweep: self,
-            progress: Progress::Finished(best_answer(plant, concentrations, best)),
-        }
-    }
-
-    // An advance on accepted data.
-    fn advance_accepted(self, concentrations: Concentrations, n: u32) -> Advanced
-        requires { PlantRanges self.plant × ConcentrationRanges concentrations }
-        ensures { AdvanceBy (goes_on_with concentrations self n) concentrations self n result }
-    {
-        let plant = self.plant;
-        let best = self.best;
-        let flow = plant.tank;
-        if !numbers_kept(flow, self.asked, n) {
-            return self.stay();
-        }
-        match handed_on(plant, concentrations, best) {
-            Handed::NotPermitted => self.stay(),
-            Handed::Key(key) => self.go_on(concentrations, n, key),
-        }
+        Progress::Finished(best_answer(accepted, best))
     }
 
     // Asks for the next n candidates: 19 and nothing moved, "unfinished" with the best so far, or what choosing answers.
+    fn ask(&mut self, n: u32) -> Result<Progress, Refusal>
+        ensures advanced_from { AdvancedFrom self.old n self.new result }
+        ensures columns { ProgressColumns self.old.plant self.old.readings result }
+        ensures numbered { AdvanceOutcome self.old n (progress_number result) (progress_sheet result) }
+    {
+        let Ok(accepted) = accepting::accept(self.plant, self.readings) else {
+            return Err(Refusal::Advance);
+        };
+        if !numbers_kept(self.plant.tank, self.asked, n) {
+            return Err(Refusal::Advance);
+        }
+        let Ok(key) = handed_on(&accepted, self.best) else {
+            return Err(Refusal::Advance);
+        };
+        Ok(self.go_on(&accepted, n, key))
+    }
+
+    // The same, with the sweep handed back by value, as document 01 names the form.
     pub fn advance(mut self, n: u32) -> Advanced
-        ensures advanced_from { AdvancedFrom self n result }
+        ensures advanced_from { AdvancedFrom self n result.sweep result.progress }
         ensures columns { ProgressColumns self.plant self.readings result.progress }
         ensures numbered { AdvanceOutcome self n (progress_number result.progress) (progress_sheet result.progress) }
     {
-        let plant = self.plant;
-        let readings = self.readings;
-        match accepting::accept(plant, readings) {
-            Acceptance::Refused(_) => self.stay(),
-            Acceptance::Accepted(concentrations) => self.advance_accepted(concentrations, n),
+        let progress = self.ask(n);
+        Advanced {
+            sweep: self,
+            progress,
         }
     }
 
@@ -413,8 +237,6 @@ impl Sweep {
         ensures columns { TwoColumns self.plant self.readings result }
         ensures numbered { Examined self.plant self.readings candidate (answer_number result) (answer_sheet result) }
     {
-        let plant = self.plant;
-        let readings = self.readings;
-        examining::examine(plant, readings, candidate)
+        examining::examine(self.plant, self.readings, candidate)
     }
 }

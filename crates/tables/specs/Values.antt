@@ -1,11 +1,12 @@
 -- Tables 2, 5 and 7 of A 131E by document 01's steps, and how many of their printed values agree. Assumes nothing.
-use Rattle.std.specs.Prelude.{ℕ, zero, suc, ◌+◌, ◌-◌, ◌*◌, ◌≤◌, cond, List, [], ◌∷◌, eqb, length, get_or}
+use Rattle.std.specs.Prelude.{ℕ, zero, suc, ◌+◌, ◌-◌, ◌*◌, ◌≤◌, cond, List, [], ◌∷◌, eqb, length, get_or, sum_by}
+use Rattle.std.specs.Borrow.{Bor}
 use Rattle.rules.specs.Rounding.{down}
 use Rattle.rules.specs.Ranges.{Between}
 use Rattle.rules.specs.AgeNitrate.{safety_factor, aerobic_age, sludge_age, corrected_age, capacity_uptake}
 use Rattle.rules.specs.ReactorSteps.{biomass_decay}
-use Rattle.tables.specs.declared.Row.{Row}
-use Rattle.tables.specs.declared.Row.TheVariants.{Age, Production, Consumption}
+use Rattle.tables.specs.declared.values.Row.{Row}
+use Rattle.tables.specs.declared.values.Row.TheVariants.{Age, Production, Consumption}
 
 -- how many columns a row has
 abbrev pub columns : Row → ℕ
@@ -64,3 +65,11 @@ agreeing computed printed (suc n) = agreeing computed printed n + agrees (comput
 -- how many of a row's printed values agree
 abbrev pub agreeing_in : Row → List ℕ → ℕ
 agreeing_in row printed = agreeing (value_at row) printed (length printed)
+
+-- a row of a table, with no more printed values than it has columns
+abbrev pub FitsPrinted : Row × Bor (List ℕ) → Type 0
+FitsPrinted (row, printed) = Fits row (length printed.now)
+
+-- how many of the printed values of a table's rows agree
+abbrev pub agreeing_rows : List (Row × Bor (List ℕ)) → ℕ
+agreeing_rows rows = sum_by (λ row. agreeing_in row.0 row.1.now) rows

@@ -1,107 +1,87 @@
-// The cells of a table on standard output, right-aligned.
-ghost use Rattle.std.specs.Prelude.{◌≡◌, ◌≤◌, ◌<◌};
-ghost use Rattle.tables.specs.Values.{agrees};
+// Prints the rows of a table, right-aligned.
+ghost use Rattle.std.specs.List.{All};
+ghost use Rattle.std.specs.Prelude.{◌+◌, length};
+ghost use Rattle.tables.specs.Values.{Fits, FitsPrinted};
 
-use crate::Row;
-use crate::values::DAYS;
-use std::io;
-use std::io::Write;
-use std::rt::Stdout;
+use crate::values::{DAYS, FRACTIONS, Row};
+use crate::{PrintedRow, values};
+use std::{fmt, io};
 
-// Standard output, and whether all that was printed has been written: after a write that fails nothing more is.
+// A number of tenths, with its point; the whole part in seven places.
 #[derive(Drop)]
-pub(crate) struct Output {
-    stdout: Stdout,
-    written: io::Result<()>,
-}
+struct Tenths(u64);
 
-impl Output {
-    pub(crate) fn new(stdout: Stdout) -> Output {
-        Output {
-            stdout,
-            written: Ok(()),
-        }
-    }
-
-    pub(crate) fn finish(self) -> io::Result<()> {
-        self.written
+impl fmt::Display for Tenths {
+    fn fmt<W: fmt::Write>(&self, f: &mut fmt::Formatter<W>) -> fmt::Result {
+        write!(f, "{:7}.{}", self.0 / 10, self.0 % 10)
     }
 }
 
-pub(crate) fn text(out: &mut Output, bytes: &[u8]) {
-    if out.written.is_ok() {
-        out.written = out.stdout.write_all(bytes);
+// A number of hundredths, with its point; the whole part in seven places.
+#[derive(Drop)]
+struct Hundredths(u64);
+
+impl fmt::Display for Hundredths {
+    fn fmt<W: fmt::Write>(&self, f: &mut fmt::Formatter<W>) -> fmt::Result {
+        write!(f, "{:7}.{:02}", self.0 / 100, self.0 % 100)
     }
 }
 
-fn decimal(out: &mut Output, n: u64) {
-    if out.written.is_ok() {
-        out.written = write!(out.stdout, "{n}");
-    }
-}
-
-// A whole number of up to four digits in seven places.
-pub(crate) fn whole(out: &mut Output, n: u64) {
-    match n {
-        0..=9 => text(out, b"      "),
-        10..=99 => text(out, b"     "),
-        100..=999 => text(out, b"    "),
-        _ => text(out, b"   "),
-    }
-    decimal(out, n);
-}
-
-// A number of tenths, with its point.
-pub(crate) fn tenths(out: &mut Output, n: u64) {
-    whole(out, n / 10);
-    text(out, b".");
-    decimal(out, n % 10);
-}
-
-// A number of hundredths, with its point.
-pub(crate) fn hundredths(out: &mut Output, n: u64) {
-    tenths(out, n / 10);
-    decimal(out, n % 10);
-}
-
-// What a value is for, the value computed, and the value printed.
-pub(crate) fn line(out: &mut Output, row: Row, column: usize, computed: u64, printed: u64)
-    requires { column < 6 }
+// What a value is for, the value computed, the value printed, and whether the two agree.
+fn line(rt: &impl Print, row: Row, column: usize, printed: u64) -> io::Result<()>
+    requires { Fits row (column + 1) }
 {
+    let computed = row.value(column);
+    let verdict = if values::agrees(computed, printed) {
+        "agrees"
+    } else {
+        "differs"
+    };
     match row {
         Row::Age(load, temperature) => {
-            whole(out, load);
-            whole(out, temperature);
-            tenths(out, 2 + column as u64);
-            tenths(out, computed);
-            tenths(out, printed);
-            return;
+            println!(rt;
+                "{load:7}{temperature:7}{}{}{}  {verdict}",
+                Tenths(FRACTIONS[column] / 100),
+                Tenths(computed),
+                Tenths(printed)
+            )
         }
-        Row::Production(ratio) => tenths(out, ratio),
-        Row::Consumption(temperature) => whole(out, temperature),
+        Row::Production(ratio) => {
+            println!(rt;
+                "{}{:7}{}{}  {verdict}",
+                Tenths(ratio),
+                DAYS[column],
+                Hundredths(computed),
+                Hundredths(printed)
+            )
+        }
+        Row::Consumption(temperature) => {
+            println!(rt;
+                "{temperature:7}{:7}{}{}  {verdict}",
+                DAYS[column],
+                Hundredths(computed),
+                Hundredths(printed)
+            )
+        }
     }
-    whole(out, DAYS[column]);
-    hundredths(out, computed);
-    hundredths(out, printed);
 }
 
-// Ends a line with whether its two values agree; gives 1 where they do, else 0.
-pub(crate) fn verdict(out: &mut Output, computed: u64, printed: u64) -> u64
-    ensures { (result ≡ agrees computed printed) × (result ≤ 1) }
+// A line for each of a row's values.
+fn row(rt: &impl Print, row: Row, printed: &[u64]) -> io::Result<()>
+    requires { Fits row (length printed.now) }
 {
-    let same = computed == printed;
-    if same {
-        text(out, b"  agrees\n");
-        return 1;
+    for (column, &value) in printed.iter().enumerate() {
+        line(rt, row, column, value)?;
     }
-    text(out, b"  differs\n");
-    0
+    Ok(())
 }
 
-// Ends a table with how many of its values agree.
-pub(crate) fn agreed(out: &mut Output, count: u64, all: u64) {
-    decimal(out, count);
-    text(out, b" of ");
-    decimal(out, all);
-    text(out, b" agree\n");
+// The lines of a table's rows.
+pub(crate) fn rows(rt: &impl Print, rows: &[PrintedRow]) -> io::Result<()>
+    requires { All FitsPrinted rows.now }
+{
+    for &(key, printed) in rows {
+        row(rt, key, printed)?;
+    }
+    Ok(())
 }

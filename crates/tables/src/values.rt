@@ -1,9 +1,10 @@
 // The values of Tables 2, 5 and 7, from the steps of the design, rounded to the printed digits.
-ghost use Rattle.std.specs.Prelude.{◌≡◌, ◌+◌, ◌≤◌};
 ghost use Rattle.rules.specs.Ranges.{Between};
-ghost use Rattle.tables.specs.Values.{Fits, value_at, nearest, age_tenths, production_hundredths, consumption_hundredths};
+ghost use Rattle.std.specs.Prelude.{IsTrue, ◌≡◌, ◌+◌, ◌≤◌, ◌↔◌, length};
+ghost use Rattle.tables.specs.Values.{Fits, value_at, nearest, age_tenths, production_hundredths, consumption_hundredths, agreeing_in};
 
-use crate::Row;
+// The fractions VD/VAT of Table 2, thousandths.
+pub(crate) const FRACTIONS: [u64; 4] = [200, 300, 400, 500];
 
 // The sludge ages of Tables 5 and 7, days.
 pub(crate) const DAYS: [u64; 6] = [4, 8, 10, 15, 20, 25];
@@ -44,14 +45,45 @@ fn oxygen_consumption(temperature: u64, days: u64) -> u64
     nearest(reactor::capacity_uptake(corrected), 10)
 }
 
-// The value of a row in a column.
-pub(crate) fn value(row: Row, column: usize) -> u64
-    requires { Fits row (column + 1) }
-    ensures { result ≡ value_at row column }
+// Whether a computed and a printed value agree: both the count and the word that is printed go by it.
+pub(crate) fn agrees(computed: u64, printed: u64) -> bool
+    ensures { IsTrue result ↔ computed ≡ printed }
 {
-    match row {
-        Row::Age(load, temperature) => sludge_age(load, temperature, 200 + 100 * column as u64),
-        Row::Production(ratio) => sludge_production(ratio, DAYS[column]),
-        Row::Consumption(temperature) => oxygen_consumption(temperature, DAYS[column]),
+    computed == printed
+}
+
+// A row of a table, by what the standard prints it for: in Table 2 a load and a temperature, with a column for each
+// fraction; in Table 5 a ratio X/C in tenths and in Table 7 a temperature, with a column for each sludge age.
+#[derive(Clone, Copy)]
+pub enum Row {
+    Age(u64, u64),
+    Production(u64),
+    Consumption(u64),
+}
+
+impl Row {
+    // The value in a column.
+    pub(crate) fn value(self, column: usize) -> u64
+        requires { Fits self (column + 1) }
+        ensures { result ≡ value_at self column }
+    {
+        match self {
+            Row::Age(load, temperature) => sludge_age(load, temperature, FRACTIONS[column]),
+            Row::Production(ratio) => sludge_production(ratio, DAYS[column]),
+            Row::Consumption(temperature) => oxygen_consumption(temperature, DAYS[column]),
+        }
+    }
+
+    // How many of the printed values agree.
+    #[tactic(auto, unfolding(crate::specs::Values::agreeing, crate::specs::Values::agrees))]
+    pub(crate) fn agreeing(self, printed: &[u64]) -> u64
+        requires { Fits self (length printed.now) }
+        ensures { (result ≡ agreeing_in self printed.now) × (result ≤ length printed.now) }
+    {
+        let mut count = 0;
+        for (column, &value) in printed.iter().enumerate() {
+            count += u64::from(agrees(self.value(column), value));
+        }
+        count
     }
 }

@@ -1,12 +1,17 @@
--- Runs of stores, and what is left of words and numbers while a loop stores them. Assumes nothing.
+-- Runs of stores, what is left of numbers while a loop stores them, and the library's bytes of a number. Assumes nothing.
 use mathlib.Core.Path.{◌≡◌, refl, ap, ◌∙◌}
-use mathlib.Core.List.{List, [], ◌∷◌, ◌++◌, append-nil}
-use Prim.Native.Nat.{ℕ, zero, suc, ◌+◌, ◌-◌, ◌*◌, ◌/◌, ◌%◌, ◌≤◌, ◌<◌}
-use native.Mathlib.Nat.{add-zero, zero-add}
-use native.Mathlib.Numerals.{add-one}
+use mathlib.Core.List.{List, [], ◌∷◌, ◌++◌}
+use Prim.Native.Nat.{ℕ, zero, suc, ◌+◌, ◌*◌, ◌/◌, ◌%◌, ◌^◌, ◌≤◌, ◌<◌}
 use native.Mathlib.Omega.{arith}
+use borrow.Rule.Slice.PartMut.{put_mid}
 use lib.ListN.{length, get_or, set, drop, length-append, drop_of_length-le}
-use lib.Seq.{sets, sets-eq, drop-cons, drop-length}
+use lib.Seq.{sets, sets-eq, drop-cons, paste}
+use Rattle.std.proofs.Math.Nat.{add-zero, zero-add, div-one, pow-suc, div-div-eq-div-mul}
+use Rattle.std.proofs.Math.Numerals.{add-one}
+use Rattle.std.proofs.Common.{append_assoc}
+use Rattle.std.proofs.lemmas.List.Edits.{paste_all}
+use Rattle.std.proofs.lemmas.Slice.{put_mid-paste}
+use Rattle.std.specs.Int.{Width, bytes_low_first, byte_len, to_le_bytes}
 use Rattle.words.specs.Bytes.{word, words_from, low_bytes, chunked, number_bytes, word_bytes}
 
 -- a run, and right after it those that are left
@@ -19,22 +24,6 @@ stored_run (a ∷ x) rest l i =
 -- a run from the list's start
 pub sets_start : (x l : List ℕ) → length x ≤ length l → sets l 0 x ≡ x ++ drop (length x) l
 sets_start x l fits = let room : 0 + length x ≤ length l = omega arith in rw (sets-eq x l 0 room, zero-add)
-
--- one entry of a list more is stored, and at the end all of them
-pub entry_stored :
-    (list entries : List ℕ) (at i : ℕ) → i < length entries
-    → sets (set list (at + i) (get_or entries i 0)) (at + (i + 1)) (drop (i + 1) entries) ≡ sets list (at + i) (drop i entries)
-entry_stored list entries at i below =
-    let step : at + (i + 1) ≡ suc (at + i) = omega arith in
-    rw (step, drop-cons entries i 0 below, add-one i)
-
-pub entries_stored : (list whole entries : List ℕ) (at i : ℕ) → length entries ≤ i → sets list (at + i) (drop i entries) ≡ whole → list ≡ whole
-entries_stored list whole entries at i end e = rw (drop_of_length-le entries end) at e
-
-pub length_words : (bytes : List ℕ) (i count : ℕ) → length (words_from bytes i count) ≡ count
-unfolding words_from
-length_words bytes i zero = refl
-length_words bytes i (suc count) = ap suc (length_words bytes (i + 1) count)
 
 length_low : (count n : ℕ) → length (low_bytes count n) ≡ count
 unfolding low_bytes
@@ -53,36 +42,33 @@ length_numbers numbers = length_chunks (low_bytes 8) 8 (length_low 8) numbers
 pub length_word_bytes : (words : List ℕ) → length (word_bytes words) ≡ 4 * length words
 length_word_bytes words = length_chunks (low_bytes 4) 4 (length_low 4) words
 
--- one word more is stored, and at the end all of them
-pub word_stored :
-    (bytes words : List ℕ) (i count w : ℕ) → i < count → w ≡ word bytes i
-    → sets (set words i w) (i + 1) (words_from bytes (i + 1) (count - (i + 1))) ≡ sets words i (words_from bytes i (count - i))
+-- a list that has at each index the word there
+pub words_by_index :
+    (bytes words : List ℕ) (i : ℕ) → ((k : ℕ) → k < length words → get_or words k 0 ≡ word bytes (i + k))
+    → words ≡ words_from bytes i (length words)
 unfolding words_from
-word_stored bytes words i count w below e =
-    let more : count - i ≡ suc (count - (i + 1)) = omega arith in
-    rw (more, e, add-one i)
+words_by_index bytes [] i each = refl
+words_by_index bytes (w ∷ words) i each =
+    let first : w ≡ word bytes i = each 0 (omega arith) ∙ rw add-zero in
+    let rest : (k : ℕ) → k < length words → get_or words k 0 ≡ word bytes (i + 1 + k) =
+    λ k below. let e : i + 1 + k ≡ i + suc k = omega arith in rw e (each (suc k) (omega arith)) in
+    rw first (ap (λ (left : List ℕ). word bytes i ∷ left) (words_by_index bytes words (i + 1) rest))
 
-pub words_stored :
-    (bytes words whole : List ℕ) (i : ℕ) → length whole ≤ i
-    → sets words i (words_from bytes i (length whole - i)) ≡ sets whole 0 (words_from bytes 0 (length whole))
-    → words ≡ words_from bytes 0 (length whole)
-unfolding words_from
-words_stored bytes words whole i end e =
-    let none : length whole - i ≡ 0 = omega arith in
-    let all : length (words_from bytes 0 (length whole)) ≡ length whole = length_words bytes 0 (length whole) in
-    let done : words ≡ sets whole 0 (words_from bytes 0 (length whole)) = rw none at e in
-    done ∙ sets_start (words_from bytes 0 (length whole)) whole (omega arith) ∙ rw (all, drop-length, append-nil)
-
--- one byte of a number more is stored
-pub byte_stored :
-    (page : List ℕ) (at count k rest : ℕ) → k < count
-    → sets (set page (at + k) (rest % 256)) (at + (k + 1)) (low_bytes (count - (k + 1)) (rest / 256))
-    ≡ sets page (at + k) (low_bytes (count - k) rest)
+-- the library's bytes of a number are its lowest
+low_first : (i k n : ℕ) → bytes_low_first i k n ≡ low_bytes k (n / 256 ^ i)
 unfolding low_bytes
-byte_stored page at count k rest below =
-    let more : count - k ≡ suc (count - (k + 1)) = omega arith in
-    let next : at + (k + 1) ≡ suc (at + k) = omega arith in
-    rw (more, next)
+low_first i zero n = refl
+low_first zero (suc k) n = rw div-one (ap (λ (left : List ℕ). n % 256 ∷ left) (low_first 1 k n))
+low_first (suc i) (suc k) n =
+    let next : n / 256 ^ suc (suc i) ≡ n / 256 ^ suc i / 256 = rw (pow-suc, div-div-eq-div-mul) in
+    ap (λ (left : List ℕ). n / 256 ^ suc i % 256 ∷ left) (rw (← next) (low_first (suc (suc i)) k n))
+
+low_le_bytes : (w : Width) (n : ℕ) → to_le_bytes w n ≡ low_bytes (byte_len w) n
+low_le_bytes w n = rw low_first (rw div-one)
+
+-- a whole list, copied into another from an index on
+pub pasted : {A : Type 0} (l x : List A) (at n : ℕ) → n ≡ length x → at + length x ≤ length l → paste l at x n ≡ sets l at x
+pasted l x at n e fits = paste_all l at x n e ∙ rw (e, sets-eq x l at fits, append_assoc)
 
 -- one element's chunk more is stored from an index on, and at the end all of them
 pub chunk_stored :
@@ -104,20 +90,22 @@ pub chunks_stored :
 unfolding chunked
 chunks_stored chunk l page whole at i end e = rw (drop_of_length-le l end) at e
 
--- so of numbers in eight bytes each, and of words in four
-low_stored :
-    (k : ℕ) (numbers page after : List ℕ) (at i : ℕ) → i < length numbers → after ≡ sets page (at + k * i) (low_bytes k (get_or numbers i 0))
-    → sets after (at + k * (i + 1)) (chunked (low_bytes k) (drop (i + 1) numbers)) ≡ sets page (at + k * i) (chunked (low_bytes k) (drop i numbers))
-low_stored k numbers page after at i below e =
-    let next : at + k * (i + 1) ≡ at + k * i + length (low_bytes k (get_or numbers i 0)) = omega (arith, length_low k (get_or numbers i 0)) in
-    chunk_stored (low_bytes k) 0 numbers page after (at + k * i) (at + k * (i + 1)) i below next e
-
+-- so a number's bytes, copied into their part of the page
 pub number_stored :
-    (numbers page after : List ℕ) (i : ℕ) → i < length numbers → after ≡ sets page (8 * i) (low_bytes 8 (get_or numbers i 0))
-    → sets after (8 * (i + 1)) (number_bytes (drop (i + 1) numbers)) ≡ sets page (8 * i) (number_bytes (drop i numbers))
-number_stored numbers page after i below e = simp (zero-add) at (low_stored 8 numbers page after 0 i below (simp (zero-add) e))
-
-pub word_bytes_stored :
-    (words page after : List ℕ) (at i : ℕ) → i < length words → after ≡ sets page (at + 4 * i) (low_bytes 4 (get_or words i 0))
-    → sets after (at + 4 * (i + 1)) (word_bytes (drop (i + 1) words)) ≡ sets page (at + 4 * i) (word_bytes (drop i words))
-word_bytes_stored words page after at i below e = low_stored 4 words page after at i below e
+    (w : Width) (numbers page now : List ℕ) (from at k next i n : ℕ)
+    → i < length numbers
+    → from ≡ at
+    → k ≡ byte_len w
+    → next ≡ at + byte_len w
+    → at + byte_len w ≤ length page
+    → now ≡ to_le_bytes w n
+    → n ≡ get_or numbers i 0
+    → sets (put_mid from k page now) next (chunked (low_bytes (byte_len w)) (drop (i + 1) numbers))
+    ≡ sets page at (chunked (low_bytes (byte_len w)) (drop i numbers))
+number_stored w numbers page now from at k next i n below start part step fits bytes number =
+    let low : List ℕ = low_bytes (byte_len w) (get_or numbers i 0) in
+    let size : length low ≡ byte_len w = length_low (byte_len w) (get_or numbers i 0) in
+    let copied : now ≡ low = bytes ∙ rw number (low_le_bytes w (get_or numbers i 0)) in
+    let after : put_mid from k page now ≡ sets page at low =
+    rw start (put_mid-paste at k page now low (byte_len w) copied (omega arith) (omega arith) ∙ pasted page low at (byte_len w) (omega arith) (omega arith)) in
+    chunk_stored (low_bytes (byte_len w)) 0 numbers page _ at next i below (omega arith) after

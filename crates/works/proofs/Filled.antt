@@ -7,25 +7,30 @@ use Prim.Native.Nat.{ℕ, ◌+◌, ◌≤◌, ◌<◌}
 use native.Mathlib.Nat.{eq-or-lt_of_le}
 use native.Mathlib.Omega.{arith}
 use borrow.Author.Tests.{lt-ltb, le-ltb, ltb-true, ltb-false, eqb-true, eqb-false}
+use borrow.Author.Count.{below_more}
 use lib.Dec.{T, ltb, eqb}
-use lib.ListN.{length, get_or, set, length-set, replicate, length-replicate}
+use lib.ListN.{length, get_or, set, take, length-set, replicate, length-replicate}
 use lib.Seq.{get_or-set_same, get_or-set_other}
+use Rattle.std.specs.Prelude.{Ok, Err}
+use Rattle.std.proofs.lemmas.List.{length-take, length-take-le, get_or-take}
 use Rattle.rules.specs.Sums.{sum_from, values_from}
 use Rattle.rules.specs.Limits.{most_lines}
 use Rattle.rules.specs.Answers.{empty_sheet, answer_sheet}
 use Rattle.rules.specs.Ranges.{PlantRanges, ConcentrationRanges, SheetBounds}
 use Rattle.rules.specs.Choosing.{candidate_of}
 use Rattle.rules.specs.Lines.{split_valid, line_of, line_positive, LineChosenBy, LineChosen}
-use Rattle.rules.specs.Works.{sums_of, line_sheet, no_sums}
+use Rattle.rules.specs.Works.{answer_verdict, sums_of, line_sheet, no_sums, works_by, works_of}
 use Rattle.rules.specs.declared.Plant.{Plant}
 use Rattle.rules.specs.declared.Concentrations.{Concentrations}
 use Rattle.rules.specs.declared.Split.{Split}
 use Rattle.rules.specs.declared.Sheet.{Sheet}
 use Rattle.rules.specs.declared.Sums.{Sums}
-use Rattle.rules.specs.declared.Answer.{Answer}
+use Rattle.rules.specs.declared.Works.{Works}
+use Rattle.rules.specs.Results.{Answer}
 use Rattle.rules.proofs.SumLaws.{sum_grown, values_length, values_at, list_of_values}
 use Rattle.rules.proofs.RangeFacts.{on_grid_lem}
 use Rattle.rules.proofs.LineLaws.{line_ranges}
+use Rattle.rules.proofs.WorksLaws.{none_refused}
 use Rattle.examining.proofs.Bounds.{sheet_bounds}
 use Rattle.works.specs.Entries.{answer_at, LinesChosen, SheetsBounded, SumsBounds, sums_with}
 
@@ -127,9 +132,9 @@ lines_next p x split n a answers b c s = record { size = length-set answers n a 
     go : (k : ℕ) → (k ≡ n) ⊎ (k < n) → LineChosen (line_of p split k) x (answer_at (set answers n a) k)
     go k (inl same) =
         subst (λ (j : ℕ). LineChosen (line_of p split j) x (answer_at (set answers n a) j)) (sym same)
-        (subst (LineChosen (line_of p split n) x) (sym (get_or-set_same answers n a (Answer.Designed empty_sheet) (omega (arith, s.size)))) c)
+        (subst (LineChosen (line_of p split n) x) (sym (get_or-set_same answers n a (Ok empty_sheet) (omega (arith, s.size)))) c)
     go k (inr less) =
-        subst (LineChosen (line_of p split k) x) (sym (get_or-set_other answers n k a (Answer.Designed empty_sheet) (λ same. omega arith))) (s.each k less)
+        subst (LineChosen (line_of p split k) x) (sym (get_or-set_other answers n k a (Ok empty_sheet) (λ same. omega arith))) (s.each k less)
 
 -- ---- limits of the sheets
 
@@ -144,13 +149,13 @@ answer_bounds :
     → LineChosen (line_of p split i) x a
     → SheetBounds (answer_sheet a)
 unfolding answer_sheet
-answer_bounds p x split i (Answer.Refused n) hp hx valid below c = zero_bounds
-answer_bounds p x split i (Answer.Designed s) hp hx valid below c = go (line_positive line) refl c
+answer_bounds p x split i (Err n) hp hx valid below c = zero_bounds
+answer_bounds p x split i (Ok s) hp hx valid below c = go (line_positive line) refl c
   where
     line : Plant
     line = line_of p split i
 
-    go : (b : Bool) → line_positive line ≡ b → LineChosenBy b line x (Answer.Designed s) → SheetBounds s
+    go : (b : Bool) → line_positive line ≡ b → LineChosenBy b line x (Ok s) → SheetBounds s
     go true e l =
         subst SheetBounds (sym l.figures)
         (sheet_bounds line x (candidate_of s) (line_ranges p split i valid below hp (subst T (sym e) tt)) hx (on_grid_lem line.tank (candidate_of s) l.member))
@@ -162,3 +167,71 @@ pub lines_bounded :
     → LinesChosen p x split split.count answers
     → SheetsBounded answers split.count
 lines_bounded p x split answers hp hx valid s i l = answer_bounds p x split i (answer_at answers i) hp hx valid l (s.each i l)
+
+-- the answers of the lines alone, without the entries past them
+pub lines_taken :
+    (p : Plant) (x : Concentrations) (split : Split) (n : ℕ) (answers : List Answer)
+    → n ≤ most_lines
+    → LinesChosen p x split n answers
+    → (n ≤ length answers) × (length (take n answers) ≡ n) × ((i : ℕ) → i < n → LineChosen (line_of p split i) x (answer_at (take n answers) i))
+lines_taken p x split n answers h s =
+    let room : n ≤ length answers = omega (arith, s.size) in
+    (room, length-take-le n answers room, λ i l. rw (get_or-take n answers i (Ok empty_sheet) l) (s.each i l))
+
+pub taken_bounded : (n : ℕ) (answers : List Answer) → n ≤ length answers → SheetsBounded answers n → SheetsBounded (take n answers) (length (take n answers))
+taken_bounded n answers h b i l =
+    let below : i < n = omega (arith, length-take n answers) in
+    rw (get_or-take n answers i (Ok empty_sheet) below) (b i below)
+
+-- ---- the works
+
+-- a works put together from the first n answers, none of them refused
+pub record Together (answers : List Answer) (n : ℕ) (works : Works) : Type 0 where
+  pub earlier : (k : ℕ) → k < n → answer_verdict (answer_at answers k) ≡ (Ok tt)
+  pub sums : works.sums ≡ sums_of (answer_at answers) n
+  pub bounds : SumsBounds n works.sums
+  pub sheets : SheetsTo (answer_at answers) n works.sheets
+
+-- sums and a sheet whose every figure is 0
+pub sums_default : (s : Sums) → (s.sludge ≡ 0) × ((s.mass ≡ 0) × ((s.surface ≡ 0) × ((s.reactor ≡ 0) × ((s.settling ≡ 0) × ((s.total ≡ 0) × ((s.oxygen ≡ 0) × ((s.transfer ≡ 0)))))))) → s ≡ no_sums
+unfolding no_sums
+sums_default s h = λ k. record { sludge = h.0 k; mass = h.1.0 k; surface = h.1.1.0 k; reactor = h.1.1.1.0 k; settling = h.1.1.1.1.0 k; total = h.1.1.1.1.1.0 k; oxygen = h.1.1.1.1.1.1.0 k; transfer = h.1.1.1.1.1.1.1 k }
+
+pub sheet_default : (s : Sheet) → (s.fraction ≡ 0) × ((s.return_ratio ≡ 0) × ((s.thickening ≡ 0) × ((s.age ≡ 0) × ((s.sludge ≡ 0) × ((s.mass ≡ 0) × ((s.solids ≡ 0) × ((s.reactor ≡ 0) × ((s.surface ≡ 0) × ((s.depth ≡ 0) × ((s.settling ≡ 0) × ((s.total ≡ 0) × ((s.recirculation ≡ 0) × ((s.oxygen ≡ 0) × ((s.transfer ≡ 0))))))))))))))) → s ≡ empty_sheet
+unfolding empty_sheet
+sheet_default s h = λ k. record { fraction = h.0 k; return_ratio = h.1.0 k; thickening = h.1.1.0 k; age = h.1.1.1.0 k; sludge = h.1.1.1.1.0 k; mass = h.1.1.1.1.1.0 k; solids = h.1.1.1.1.1.1.0 k; reactor = h.1.1.1.1.1.1.1.0 k; surface = h.1.1.1.1.1.1.1.1.0 k; depth = h.1.1.1.1.1.1.1.1.1.0 k; settling = h.1.1.1.1.1.1.1.1.1.1.0 k; total = h.1.1.1.1.1.1.1.1.1.1.1.0 k; recirculation = h.1.1.1.1.1.1.1.1.1.1.1.1.0 k; oxygen = h.1.1.1.1.1.1.1.1.1.1.1.1.1.0 k; transfer = h.1.1.1.1.1.1.1.1.1.1.1.1.1.1 k }
+
+module _ (answers : List Answer) where
+  abbrev at : ℕ → Answer
+  at = answer_at answers
+
+  pub together_none : (works : Works) → works.sums ≡ no_sums → works.sheets ≡ values_from 0 most_lines (λ k. empty_sheet) → Together answers 0 works
+  together_none works e f =
+      record {
+        earlier = λ k l. absurd (omega arith);
+        sums = e ∙ sums_none at;
+        bounds = subst (SumsBounds 0) (sym e) none_bounds;
+        sheets = subst (SheetsTo at 0) (sym f) (sheets_none at);
+      }
+
+  pub together_next :
+      (n : ℕ) (works : Works) (sheet : Sheet) (sums : Sums)
+      → n < most_lines
+      → answer_at answers n ≡ Ok sheet
+      → sums ≡ sums_with works.sums sheet
+      → SumsBounds (n + 1) sums
+      → Together answers n works
+      → Together answers (n + 1) (record { sums = sums; sheets = set works.sheets n sheet })
+  unfolding answer_verdict answer_sheet
+  together_next n works sheet sums b e s bounds t =
+      record {
+        earlier = below_more _ n t.earlier (ap answer_verdict e);
+        sums = s ∙ (ap (λ (a : Answer). sums_with works.sums (answer_sheet a)) (sym e) ∙ sums_next at n works.sums t.sums);
+        bounds = bounds;
+        sheets = sheets_next at n sheet works.sheets b (sym (ap answer_sheet e)) t.sheets;
+      }
+
+  pub together_all : (n : ℕ) (works : Works) → Together answers n works → Ok works ≡ works_of at n
+  unfolding works_of works_by
+  together_all n works t =
+      rw (none_refused at n t.earlier) (λ i. Ok (record { sums = t.sums i; sheets = sheets_full at n works.sheets t.sheets i }))

@@ -1,3 +1,4 @@
--- Laws of the lines in their array, and the wrong programs that the definitions shut out.
+-- Laws of a split's shares and of the lines in their array, and the wrong programs that the definitions shut out.
+pub mod Positive
 pub mod Filled
 pub mod Refuted

@@ -4,13 +4,14 @@ use mathlib.Core.Path.{◌≡◌, refl}
 use mathlib.Core.Bool.{true, false}
 use mathlib.Core.List.{List, [], ◌∷◌}
 use borrow.Author.Tests.{eqb-false}
+use Rattle.std.specs.Prelude.{Result, Ok, Err}
 use Rattle.rules.specs.Rounding.{down}
 use Rattle.rules.specs.Accepting.{values_of}
 use Rattle.rules.specs.AgeNitrate.{safety_factor}
 use Rattle.rules.specs.Examining.{sheet_of}
-use Rattle.rules.specs.Answers.{acceptance_number}
+use Rattle.rules.specs.Answers.{answer_number}
 use Rattle.rules.specs.Lines.{shares_to, shares_positive, split_valid, line_part, line_of, line_positive, line_rules, accept_line}
-use Rattle.rules.specs.Works.{works_rules, accept_works, answer_verdict, first_refused, sums_of, line_sheet, no_sums, refused_works, works_by, works_of, works_number}
+use Rattle.rules.specs.Works.{works_rules, accept_works, answer_verdict, first_refused, sums_of, line_sheet, no_sums, works_sheets, works_by, works_of}
 use Rattle.rules.specs.WorksOutcome.{sheet_at}
 use Rattle.rules.specs.Cases.{variant, case_a, concentrations_a, readings_a, f32, candidate}
 use Rattle.rules.specs.declared.Plant.{Plant}
@@ -23,7 +24,7 @@ use Rattle.rules.specs.declared.Split.{Split}
 use Rattle.rules.specs.declared.Sheet.{Sheet}
 use Rattle.rules.specs.declared.Works.{Works}
 use Rattle.rules.specs.declared.Refusal.{Refusal}
-use Rattle.rules.specs.declared.Answer.{Answer}
+use Rattle.rules.specs.Results.{Answer}
 use Rattle.rules.proofs.Computing.{steps}
 use Rattle.examining.proofs.WrongExaminers.{Differ}
 
@@ -63,14 +64,17 @@ abbrev then : Answer → Answer → ℕ → Answer
 then first second zero = first
 then first second (suc i) = second
 
-abbrev together : Answer → Answer → Works
+abbrev together : Answer → Answer → Result Works Refusal
 together first second = works_of (then first second) 2
 
+abbrev sheets_together : Answer → Answer → Works
+sheets_together first second = works_sheets (together first second)
+
 abbrev number_for : Plant → Split → ℕ
-number_for p split = acceptance_number (accept_works p readings_a split)
+number_for p split = answer_number (accept_works p readings_a split)
 
 abbrev number_of_line : ℕ → ℕ
-number_of_line line = acceptance_number (accept_line case_a readings_a halves line)
+number_of_line line = answer_number (accept_line case_a readings_a halves line)
 
 pub record WrongWorks : Type 0 where
   -- it rounds each share alone: of 100 the third line would get 33, and one would be lost
@@ -87,13 +91,13 @@ pub record WrongWorks : Type 0 where
   -- it asks 18 after 1
   pub lines_after_data : Differ (number_for dry (split_of 1 (1_000 ∷ []))) 18 (number_for dry halves)
   -- it takes the smallest refusal, or the last, for that of the first refused line
-  pub smallest_refusal : Differ (works_number (together (Answer.Refused Refusal.NoDesign) (Answer.Refused Refusal.PlantData))) 5 1
-  pub last_refusal : Differ (works_number (together (Answer.Refused Refusal.PlantData) (Answer.Refused Refusal.NoDesign))) 1 5
+  pub smallest_refusal : Differ (answer_number (together (Err Refusal.NoDesign) (Err Refusal.PlantData))) 5 1
+  pub last_refusal : Differ (answer_number (together (Err Refusal.PlantData) (Err Refusal.NoDesign))) 1 5
   -- it gives the sums, or the sheets, of a refused works
-  pub sums_of_refused : Differ (together (Answer.Designed (sheet_with 75)) (Answer.Refused Refusal.NoDesign)).sums.total 0 (sheet_with 75).total
-  pub sheets_of_refused : Differ (sheet_at (together (Answer.Designed (sheet_with 75)) (Answer.Refused Refusal.NoDesign)) 0).total 0 (sheet_with 75).total
+  pub sums_of_refused : Differ (sheets_together (Ok (sheet_with 75)) (Err Refusal.NoDesign)).sums.total 0 (sheet_with 75).total
+  pub sheets_of_refused : Differ (sheet_at (sheets_together (Ok (sheet_with 75)) (Err Refusal.NoDesign)) 0).total 0 (sheet_with 75).total
   -- it gives the lines in another order
-  pub other_order : Differ (sheet_at (together (Answer.Designed (sheet_with 75)) (Answer.Designed (sheet_with 50))) 0).return_ratio 75 50
+  pub other_order : Differ (sheet_at (sheets_together (Ok (sheet_with 75)) (Ok (sheet_with 50))) 0).return_ratio 75 50
   -- it turns head counts on the line's own flow
   pub heads_on_line : Differ (values_of case_a counted).bod 120_000 (values_of (line_of case_a halves 0) counted).bod
   -- it takes the safety factor of the line's share of the load
@@ -123,10 +127,10 @@ unfolding
     sums_of
     line_sheet
     no_sums
-    refused_works
+    works_sheets
     works_by
     works_of
-    works_number
+    answer_number
 wrong_works =
     record {
       rounded_alone = (refl, eqb-false _ _ refl);

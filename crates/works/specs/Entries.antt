@@ -1,5 +1,5 @@
 -- The answers of a works' lines in an array, for the contracts of the inner functions. Assumes nothing.
-use Rattle.std.specs.Prelude.{ℕ, ◌+◌, ◌*◌, ◌≤◌, ◌<◌, ◌≡◌, List, length, get_or}
+use Rattle.std.specs.Prelude.{ℕ, ◌+◌, ◌*◌, ◌≤◌, ◌<◌, ◌≡◌, List, length, get_or, Ok}
 use Rattle.rules.specs.Limits.{most_lines, most_figure}
 use Rattle.rules.specs.Answers.{empty_sheet, answer_sheet}
 use Rattle.rules.specs.Ranges.{SheetBounds}
@@ -9,11 +9,11 @@ use Rattle.rules.specs.declared.Concentrations.{Concentrations}
 use Rattle.rules.specs.declared.Split.{Split}
 use Rattle.rules.specs.declared.Sheet.{Sheet}
 use Rattle.rules.specs.declared.Sums.{Sums}
-use Rattle.rules.specs.declared.Answer.{Answer}
+use Rattle.rules.specs.Results.{Answer}
 
 -- the answer in entry i
 abbrev pub answer_at : List Answer → ℕ → Answer
-answer_at answers i = get_or answers i (Answer.Designed empty_sheet)
+answer_at answers i = get_or answers i (Ok empty_sheet)
 
 -- how many figures a works has: eight sums, and fifteen for each of eight lines
 abbrev pub works_count : ℕ

@@ -1,24 +1,17 @@
--- `choose` meets its contract: a refusal of the data stands, accepted data are in range and the least design is chosen. Assumes nothing.
-use mathlib.Core.Path.{sym, ◌∙◌}
-use Rattle.rules.proofs.NitrateColumns.{chosen_with_columns}
-use Rattle.rules.proofs.AcceptedData.{accepted_ranges}
-use Rattle.rules.specs.declared.Answer.{Answer}
+-- `choose` meets its contract: a refusal of the data stands, and of accepted data the least design is chosen. Assumes nothing.
+use Rattle.std.proofs.lemmas.Result.{err_from_is_err_and}
+use Rattle.rules.proofs.NitrateColumns.{chosen_columns}
+use Rattle.rules.specs.Choosing.{Chosen}
 use Rattle.choosing.proofs.choose.Goals as goal
 
-pub choose_accepted-requires : goal.choose_accepted-requires
-choose_accepted-requires c =
-    accepted_ranges c.args.plant c.args.readings c.in-Accepted.concentrations
-    (sym c.accept.ensures ∙ c.in-Accepted.is)
+pub returns-in_err-accepted : goal.returns-in_err-accepted
+returns-in_err-accepted c =
+    let p = err_from_is_err_and c.from_residual.result c.from_residual.ensures.1 in
+    let chosen : Chosen c.args.plant c.args.readings c.from_residual.result = rw (← c.in_err-accepted.ensures.value, p.1, p.2) in
+    record { chosen = chosen; columns = chosen_columns c.args.plant c.args.readings c.from_residual.result chosen }
 
-pub returns-in-Refused : goal.returns-in-Refused
-returns-in-Refused c =
-    let both = chosen_with_columns c.args.plant c.args.readings (Answer.Refused c.in-Refused.refusal) (rw (sym c.accept.ensures ∙ c.in-Refused.is)) in
-    record { chosen = both.0; columns = both.1 }
-
-pub returns-in-Accepted : goal.returns-in-Accepted
-returns-in-Accepted c =
-    let both =
-    chosen_with_columns c.args.plant c.args.readings c.choose_accepted.result
-    (rw (sym c.accept.ensures ∙ c.in-Accepted.is) c.choose_accepted.ensures)
-    in
-    record { chosen = both.0; columns = both.1 }
+pub returns : goal.returns
+returns c =
+    let chosen : Chosen c.args.plant c.args.readings c.choose_accepted.result =
+    rw (← c.in_ok-accepted.ensures.value) (rw c.in_ok-accepted.ensures.plant at c.choose_accepted.ensures) in
+    record { chosen = chosen; columns = chosen_columns c.args.plant c.args.readings c.choose_accepted.result chosen }

@@ -1,23 +1,20 @@
--- `target_on` meets its contract: 14 where a test fails, else the entries from the last one up. Assumes nothing.
-use Rattle.std.proofs.Common.{sym, ◌∙◌, ◌&&◌}
-use mathlib.Core.Path.{ap₂}
-use Rattle.rules.specs.Consent.{target_on}
-use Rattle.consents.proofs.FourEntries.{lowest_entry}
+-- `target_on` meets its contract: the chain gives the lowest target of the terms that run. Assumes nothing.
+use Rattle.std.proofs.Common.{rules, tests, ap, sym, ◌∙◌}
+use Rattle.std.specs.Prelude.{Ok, None}
+use Rattle.std.proofs.lemmas.Iterator.{YieldsList-from_slice, YieldsList-from_map}
+use Rattle.std.proofs.lemmas.Iterator.Consumers.{YieldsList-at, YieldsList-from_filter, fold_from_yields_List}
+use Rattle.rules.specs.Consent.{target_on, in_force}
+use Rattle.consents.proofs.Chains.{lower, lower_is, lowest_fold}
 use Rattle.consents.proofs.target_on.Goals as goal
-
-pub returns-then-not-consent_valid-date_valid : goal.returns-then-not-consent_valid-date_valid
-unfolding target_on
-returns-then-not-consent_valid-date_valid c = rw (sym (ap₂ ◌&&◌ c.consent_valid.ensures c.date_valid.ensures) ∙ c.if-not-consent_valid-date_valid.true)
 
 pub returns : goal.returns
 unfolding target_on
 returns c =
-    let consent = c.args.consent in
-    rw (
-      c.lowered_by.ensures,
-      c.lowered_by-second_on.ensures,
-      c.lowered_by-third_on.ensures,
-      c.lowered_by-fourth_on.ensures,
-      sym (ap₂ ◌&&◌ c.consent_valid.ensures c.date_valid.ensures) ∙ c.if-not-consent_valid-date_valid.false,
-    )
-    (lowest_entry c.args.date consent.count consent.first consent.second consent.third consent.fourth)
+    rw (sym c.consent_valid.ensures ∙ c.if-not-consent_valid.false, sym c.date_valid.ensures ∙ c.if-not-date_valid.false, lowest_fold)
+    (ap Ok
+    (fold_from_yields_List _ lower None _ c.fold.ensures.ran
+    (YieldsList-from_map _ (λ t. t.nitrate_target)
+    (YieldsList-at c.map.ensures.source
+    (YieldsList-from_filter _ (λ t. in_force t c.args.date) (YieldsList-from_slice _ cc) c.filter-running.ensures.closure (λ x r q k. search (rules, tests))))
+    c.map.ensures.closure (λ x r q k. search (rules, tests)))
+    (λ a x b q k. search (rules, tests, lower_is))))

@@ -1,54 +1,51 @@
 -- `judge` meets its contract: each exit is one law over plain values, and a candidate that passes the grid's test has the
 -- grid's ranges. Assumes nothing.
-use mathlib.Core.Path.{◌≡◌, sym, ◌∙◌, subst}
-use mathlib.Core.Bool.{true}
-use lib.Dec.{T}
-use Rattle.rules.specs.declared.Plant.{Plant}
-use Rattle.rules.specs.declared.Candidate.{Candidate}
-use Rattle.rules.specs.AgeNitrate.{on_grid}
-use Rattle.rules.specs.Ranges.{OnGrid}
-use Rattle.rules.proofs.RangeFacts.{on_grid_lem}
-use Rattle.examining.proofs.Verdicts.{off_grid, fraction_broken, to_the_tank}
+use Rattle.std.proofs.Common.{sym, ◌∙◌}
+use Rattle.std.proofs.lemmas.Result.{err_from_is_err_and}
+use Rattle.verdicts.proofs.Steps.{step_kept, step_broken}
+use Rattle.examining.proofs.Verdicts.{inside, off_grid, fraction_broken, to_the_tank}
 use Rattle.examining.proofs.judge.Goals as goal
 
--- a candidate that passed the grid's test
-inside : (p : Plant) (y : Candidate) → on_grid p.tank y ≡ true → OnGrid y
-inside p y e = on_grid_lem p.tank y (subst T (sym e) tt)
-
-pub returns-then-not-on_grid : goal.returns-then-not-on_grid
-returns-then-not-on_grid c =
-    off_grid c.args.plant c.args.concentrations c.args.candidate
-    (sym c.on_grid.ensures ∙ c.if-not-on_grid.true)
+pub returns-in_err-rule : goal.returns-in_err-rule
+returns-in_err-rule c =
+    let p = err_from_is_err_and c.from_residual.result c.from_residual.ensures.1 in
+    let broken = step_broken _ _ c.in_err-rule.ensures in
+    rw (p.1, p.2, broken.1) (off_grid c.args.accepted.now.plant c.args.accepted.now.concentrations c.args.candidate (sym c.on_grid-on_grid.ensures ∙ broken.0))
 
 pub reactor-reactor-requires : goal.reactor-reactor-requires
 reactor-reactor-requires c =
-    (c.requires.0, c.requires.1, (inside c.args.plant c.args.candidate (sym c.on_grid.ensures ∙ c.if-not-on_grid.false)).fraction, c.seasons_of-seasons.ensures)
+    (inside c.args.accepted.now.plant c.args.candidate (sym c.on_grid-on_grid.ensures ∙ step_kept _ _ c.in_ok-rule.ensures)).fraction
+
+pub returns-in_err-fraction_verdict : goal.returns-in_err-fraction_verdict
+returns-in_err-fraction_verdict c =
+    let known = c.args.accepted.now in
+    let p = err_from_is_err_and c.from_residual-in_err-fraction_verdict.result c.from_residual-in_err-fraction_verdict.ensures.1 in
+    rw (p.1, p.2)
+    (fraction_broken known.plant known.concentrations c.args.candidate
+    (sym c.on_grid-on_grid.ensures ∙ step_kept _ _ c.in_ok-rule.ensures)
+    c.reactor-reactor.result
+    (rw c.new-basis.ensures at c.reactor-reactor.ensures.0)
+    _
+    (sym (rw c.new-basis.ensures at c.in_err-fraction_verdict.ensures)))
+
+pub new-thickened-requires : goal.new-thickened-requires
+new-thickened-requires c =
+    let known = c.args.accepted.now in
+    (known.plant_ranges.index, (inside known.plant c.args.candidate (sym c.on_grid-on_grid.ensures ∙ step_kept _ _ c.in_ok-rule.ensures)).time)
 
 pub judge_tank-requires : goal.judge_tank-requires
-judge_tank-requires c = record {
-  plant_ranges = (
-    c.requires.0,
-    c.requires.1,
-    inside c.args.plant c.args.candidate (sym c.on_grid.ensures ∙ c.if-not-on_grid.false),
-    record { value = c.reactor-reactor.ensures.0; bounds = c.reactor-reactor.ensures.1 },
-  );
-  bottom_value = c.bottom_sludge-bottom.ensures.0;
-}
+judge_tank-requires c = (
+  inside c.args.accepted.now.plant c.args.candidate (sym c.on_grid-on_grid.ensures ∙ step_kept _ _ c.in_ok-rule.ensures),
+  record { value = rw c.new-basis.ensures at c.reactor-reactor.ensures.0; bounds = c.reactor-reactor.ensures.1 },
+  c.new-thickened.ensures.1,
+  c.new-thickened.ensures.0,
+)
 
-pub bottom_sludge-bottom-requires : goal.bottom_sludge-bottom-requires
-bottom_sludge-bottom-requires c =
-    (c.requires.0.index, (inside c.args.plant c.args.candidate (sym c.on_grid.ensures ∙ c.if-not-on_grid.false)).time)
-
-pub returns-in-Broken : goal.returns-in-Broken
-returns-in-Broken c =
-    fraction_broken c.args.plant c.args.concentrations c.args.candidate (sym c.on_grid.ensures ∙ c.if-not-on_grid.false)
-    c.reactor-reactor.result c.reactor-reactor.ensures.0
-    c.in-Broken.refusal
-    (sym c.fraction_verdict.ensures ∙ c.in-Broken.is)
-
-pub returns-in-Kept : goal.returns-in-Kept
-returns-in-Kept c =
+pub returns : goal.returns
+returns c =
+    let known = c.args.accepted.now in
     c.judge_tank.ensures
-    ∙ to_the_tank c.args.plant c.args.concentrations c.args.candidate (sym c.on_grid.ensures ∙ c.if-not-on_grid.false)
-    c.reactor-reactor.result c.reactor-reactor.ensures.0
-    (sym c.fraction_verdict.ensures ∙ c.in-Kept.is)
+    ∙ to_the_tank known.plant known.concentrations c.args.candidate (sym c.on_grid-on_grid.ensures ∙ step_kept _ _ c.in_ok-rule.ensures)
+    c.reactor-reactor.result
+    (rw c.new-basis.ensures at c.reactor-reactor.ensures.0)
+    (sym (rw c.new-basis.ensures at c.in_ok-fraction_verdict.ensures))

@@ -1,44 +1,28 @@
--- `accept_built` meets its contract: at each exit the tests passed so far say which refusal it is. Assumes nothing.
-use mathlib.Core.Path.{refl, sym, ◌∙◌}
-use Rattle.existing.proofs.Winning.{accept_by_lem}
+-- The rules in turn: at each exit those passed are kept, and the one that is not is the refusal. Assumes nothing.
+use Rattle.std.proofs.lemmas.Result.{err_from_is_err_and}
+use Rattle.existing.proofs.Winning.{in_turn}
 use Rattle.existing.proofs.accept_built.Goals as goal
 
-pub returns-then-not-span_valid : goal.returns-then-not-span_valid
-returns-then-not-span_valid c =
-    sym (accept_by_lem c.args.plant c.args.readings c.args.existing c.args.span _ _ _ _
-    (sym c.span_valid.ensures ∙ c.if-not-span_valid.true)
-    refl
-    refl
-    refl)
+pub returns-in_err-rule-clause-value : goal.returns-in_err-rule-clause-value
+returns-in_err-rule-clause-value c =
+    let p = err_from_is_err_and c.from_residual.result c.from_residual.ensures.1 in
+    rw (p.1, p.2, in_turn, ← c.span_valid.ensures, ← c.in_err-rule.ensures)
 
-pub returns-then-not-sizes_positive : goal.returns-then-not-sizes_positive
-returns-then-not-sizes_positive c =
-    sym (accept_by_lem c.args.plant c.args.readings c.args.existing c.args.span _ _ _ _
-    (sym c.span_valid.ensures ∙ c.if-not-span_valid.false)
-    (sym c.sizes_positive.ensures ∙ c.if-not-sizes_positive.true)
-    refl
-    refl)
+pub returns-in_err-rule-2-clause-value : goal.returns-in_err-rule-2-clause-value
+returns-in_err-rule-2-clause-value c =
+    let p = err_from_is_err_and c.from_residual-in_err-rule-2.result c.from_residual-in_err-rule-2.ensures.1 in
+    rw (p.1, p.2, in_turn, ← c.span_valid.ensures, ← c.in_ok-rule.ensures, ← c.sizes_positive.ensures, ← c.in_err-rule-2.ensures)
 
-pub returns-in-Refused : goal.returns-in-Refused
-returns-in-Refused c =
-    sym (accept_by_lem c.args.plant c.args.readings c.args.existing c.args.span _ _ _ _
-    (sym c.span_valid.ensures ∙ c.if-not-span_valid.false)
-    (sym c.sizes_positive.ensures ∙ c.if-not-sizes_positive.false)
-    (sym c.accept.ensures ∙ c.in-Refused.is)
-    refl)
+pub returns-in_err-accepted-clause-value : goal.returns-in_err-accepted-clause-value
+returns-in_err-accepted-clause-value c =
+    let p = err_from_is_err_and c.from_residual-in_err-accepted.result c.from_residual-in_err-accepted.ensures.1 in
+    rw (p.1, p.2, in_turn, ← c.span_valid.ensures, ← c.in_ok-rule.ensures, ← c.sizes_positive.ensures, ← c.in_ok-rule-2.ensures, ← c.in_err-accepted.ensures.value)
 
-pub returns-then-operated_on_grid : goal.returns-then-operated_on_grid
-returns-then-operated_on_grid c =
-    sym (accept_by_lem c.args.plant c.args.readings c.args.existing c.args.span _ _ _ _
-    (sym c.span_valid.ensures ∙ c.if-not-span_valid.false)
-    (sym c.sizes_positive.ensures ∙ c.if-not-sizes_positive.false)
-    (sym c.accept.ensures ∙ c.in-Accepted.is)
-    (sym c.operated_on_grid.ensures ∙ c.if-operated_on_grid.true))
+pub returns-in_err-rule-3-clause-value : goal.returns-in_err-rule-3-clause-value
+returns-in_err-rule-3-clause-value c =
+    let p = err_from_is_err_and c.from_residual-in_err-rule-3.result c.from_residual-in_err-rule-3.ensures.1 in
+    rw (p.1, p.2, in_turn, ← c.span_valid.ensures, ← c.in_ok-rule.ensures, ← c.sizes_positive.ensures, ← c.in_ok-rule-2.ensures, ← c.in_ok-accepted.ensures.value, ← c.operated_on_grid.ensures, ← c.in_err-rule-3.ensures)
 
-pub returns-else-operated_on_grid : goal.returns-else-operated_on_grid
-returns-else-operated_on_grid c =
-    sym (accept_by_lem c.args.plant c.args.readings c.args.existing c.args.span _ _ _ _
-    (sym c.span_valid.ensures ∙ c.if-not-span_valid.false)
-    (sym c.sizes_positive.ensures ∙ c.if-not-sizes_positive.false)
-    (sym c.accept.ensures ∙ c.in-Accepted.is)
-    (sym c.operated_on_grid.ensures ∙ c.if-operated_on_grid.false))
+pub returns-clause-value : goal.returns-clause-value
+returns-clause-value c =
+    rw (in_turn, ← c.span_valid.ensures, ← c.in_ok-rule.ensures, ← c.sizes_positive.ensures, ← c.in_ok-rule-2.ensures, ← c.in_ok-accepted.ensures.value, ← c.operated_on_grid.ensures, ← c.in_ok-rule-3.ensures)

@@ -1,32 +1,21 @@
--- `held_or_lost` meets its contract: where the fraction keeps its rules, what was tried with the tanks is what is held or lost; where
--- it does not, the least index is lost. Assumes nothing.
-use mathlib.Core.Path.{sym, ap, ◌∙◌}
-use Rattle.rules.specs.Rules.{verdict}
-use Rattle.rules.specs.ReactorSteps.{reactor_of}
-use Rattle.rules.specs.Examining.{fraction_rules}
-use Rattle.rules.specs.declared.Reactor.{Reactor}
-use Rattle.rules.proofs.RuleLists.{all_kept_verdict}
-use Rattle.existing.proofs.Winning.{operated_ranges, tried_held, least_lost}
+-- Where the fraction keeps its rules, what was tried with the tanks is what is held or lost; where it does not, the least index is lost.
+-- Assumes nothing.
+use Rattle.existing.proofs.Winning.{operated_ranges, fraction_by_verdict, tried_held, least_lost}
 use Rattle.existing.proofs.held_or_lost.Goals as goal
 
 pub reactor-reactor-requires : goal.reactor-reactor-requires
-reactor-reactor-requires c =
-    (c.requires.0, c.requires.1, (operated_ranges c.args.existing c.requires.2).0, c.seasons_of-seasons.ensures)
+reactor-reactor-requires c = (operated_ranges c.args.existing c.requires.0).0
 
-pub try_span-requires : goal.try_span-requires
-try_span-requires c =
-    (c.requires.0, (operated_ranges c.args.existing c.requires.2).1, c.reactor-reactor.ensures.1.mass, c.requires.3)
+pub first_lost-requires : goal.first_lost-requires
+first_lost-requires c = ((operated_ranges c.args.existing c.requires.0).1, c.reactor-reactor.ensures.1.mass, c.requires.1)
 
-pub returns-in-Broken : goal.returns-in-Broken
-returns-in-Broken c =
-    least_lost c.args.plant c.args.concentrations c.args.existing c.args.span _ c.requires.3
-    (sym (c.fraction_verdict.ensures ∙ ap (λ (r : Reactor). verdict (fraction_rules c.args.plant c.args.concentrations r)) c.reactor-reactor.ensures.0) ∙ c.in-Broken.is)
+pub returns-then-is_err : goal.returns-then-is_err
+returns-then-is_err c =
+    let kept = fraction_by_verdict _ _ c.args.existing.fraction _ _ (rw c.new-basis.ensures at c.reactor-reactor.ensures.0) (rw c.new-basis.ensures at c.fraction_verdict.ensures) in
+    least_lost _ _ c.args.existing c.args.span c.requires.1 (rw (kept, c.is_err.ensures.negation, c.if-is_err.true))
 
-pub returns-in-Kept : goal.returns-in-Kept
-returns-in-Kept c =
-    let rules = fraction_rules c.args.plant c.args.concentrations (reactor_of c.args.plant c.args.concentrations c.args.existing.fraction) in
-    tried_held c.args.plant c.args.concentrations c.args.existing c.args.span c.reactor-reactor.result.mass c.try_span.result
-    c.requires.2
-    ((all_kept_verdict rules).1 (sym (c.fraction_verdict.ensures ∙ ap (λ (r : Reactor). verdict (fraction_rules c.args.plant c.args.concentrations r)) c.reactor-reactor.ensures.0) ∙ c.in-Kept.is))
-    (ap (λ (r : Reactor). r.mass) c.reactor-reactor.ensures.0)
-    c.try_span.ensures
+pub returns : goal.returns
+returns c =
+    let reactor = rw c.new-basis.ensures at c.reactor-reactor.ensures.0 in
+    let kept = fraction_by_verdict _ _ c.args.existing.fraction _ _ reactor (rw c.new-basis.ensures at c.fraction_verdict.ensures) in
+    tried_held _ _ c.args.existing c.args.span _ _ c.requires.0 (rw (kept, c.is_err.ensures.negation, c.if-is_err.false) tt) (rw (← reactor)) c.first_lost.ensures

@@ -1,5 +1,5 @@
--- `pewgull_built` meets its contract: the outcome is that of the call that it hands on to. Assumes nothing.
+-- The outcome is that of the call that it hands on to. Assumes nothing.
 use Rattle.interface_c.proofs.pewgull_built.Goals as goal
 
 pub returns : goal.returns
-returns c = c.pewgull_built.ensures
+returns c = rw (c.finish.ensures c.built.new.page) c.built.ensures

@@ -1,5 +1,6 @@
--- `pewgull_explain` meets its contract: the outcome is that of the call that it hands on to. Assumes nothing.
+-- The outcome is that of the call that it hands on to. Assumes nothing.
+use Rattle.std.proofs.Common.{◌∙◌}
 use Rattle.interface_c.proofs.pewgull_explain.Goals as goal
 
 pub returns : goal.returns
-returns c = c.pewgull_explain.ensures
+returns c = c.finish.ensures _ ∙ c.explain.ensures

@@ -1,5 +1,5 @@
--- `pewgull_line` meets its contract: the outcome is that of the call that it hands on to. Assumes nothing.
+-- The outcome is that of the call that it hands on to. Assumes nothing.
 use Rattle.interface_c.proofs.pewgull_line.Goals as goal
 
 pub returns : goal.returns
-returns c = c.pewgull_line.ensures
+returns c = rw (c.finish.ensures c.line.new.page) c.line.ensures

@@ -1,5 +1,6 @@
--- `pewgull_sweep_start` meets its contract: the outcome is that of the call that it hands on to. Assumes nothing.
+-- The outcome is that of the call that it hands on to. Assumes nothing.
+use Rattle.std.proofs.Common.{◌∙◌}
 use Rattle.interface_c.proofs.pewgull_sweep_start.Goals as goal
 
 pub returns : goal.returns
-returns c = c.pewgull_sweep_start.ensures
+returns c = c.finish.ensures _ ∙ c.start.ensures

@@ -1,27 +1,34 @@
 -- `price` meets its contract: a refusal stands, a sheet gets its price where the tariff is valid, and else 22. Assumes nothing.
-use mathlib.Core.Path.{sym, subst, ◌∙◌}
-use mathlib.Core.Bool.{true, false}
-use lib.Dec.{T}
-use Rattle.rules.specs.Price.{priced}
-use Rattle.rules.specs.declared.PriceAnswer.{PriceAnswer}
-use Rattle.pricing.specs.Bands.{AnswerVolumes}
-use Rattle.pricing.proofs.Volumes.{priced_by}
+use Rattle.std.proofs.Common.{◌≡◌, ℕ, Bool, true, false, cond, Ok, Err}
+use Rattle.std.proofs.lemmas.Result.{err_from_is_err_and}
+use Rattle.rules.specs.Results.{Verdict}
+use Rattle.rules.specs.Price.{price_of, priced_sheet, priced}
+use Rattle.rules.specs.declared.Sheet.{Sheet}
+use Rattle.rules.specs.declared.Tariff.{Tariff}
+use Rattle.rules.specs.declared.Refusal.{Refusal}
 use Rattle.pricing.proofs.price.Goals as goal
 
-pub price_of-price-requires : goal.price_of-price-requires
-price_of-price-requires c =
-    (subst T (sym (sym c.tariff_valid.ensures ∙ c.if-tariff_valid.true)) tt, subst AnswerVolumes c.in-Designed.is c.requires)
+-- what the rule's verdict makes of a sheet
+refused : (b : Bool) (t : Tariff) (s : Sheet) {n : Refusal} → ◌≡◌ {A = Verdict} (Err n) (cond b (Ok tt) (Err Refusal.Tariff)) → Err n ≡ priced_sheet b t s
+refused true t s e = cc
+refused false t s e = cc
 
-pub returns-in-Refused : goal.returns-in-Refused
+held : (b : Bool) (t : Tariff) (s : Sheet) (cents : ℕ) → ◌≡◌ {A = Verdict} (Ok tt) (cond b (Ok tt) (Err Refusal.Tariff)) → cents ≡ price_of t s → Ok (record { sheet = s; price = cents }) ≡ priced_sheet b t s
+held true t s cents e h = λ i. Ok (record { sheet = s; price = h i })
+held false t s cents e h = cc
+
+pub returns-in_err-sheet : goal.returns-in_err-sheet
 unfolding priced
-returns-in-Refused c = rw c.in-Refused.is
+returns-in_err-sheet c =
+    let p = err_from_is_err_and c.from_residual.result c.from_residual.ensures.1 in
+    rw (p.1, p.2, c.in_err-sheet.was)
 
-pub returns-then-tariff_valid : goal.returns-then-tariff_valid
-returns-then-tariff_valid c =
-    let s = c.in-Designed.sheet in
-    (λ i. PriceAnswer.Priced (record { sheet = s; price = c.price_of-price.ensures i }))
-    ∙ sym (priced_by c.args.tariff c.args.answer s true c.in-Designed.is (sym c.tariff_valid.ensures ∙ c.if-tariff_valid.true))
+pub returns-in_err-rule : goal.returns-in_err-rule
+unfolding priced
+returns-in_err-rule c =
+    let p = err_from_is_err_and c.from_residual-in_err-rule.result c.from_residual-in_err-rule.ensures.1 in
+    rw (p.1, p.2, c.in_ok-sheet.was, ← c.tariff_valid.ensures) (refused _ _ _ c.in_err-rule.ensures)
 
-pub returns-else-tariff_valid : goal.returns-else-tariff_valid
-returns-else-tariff_valid c =
-    sym (priced_by c.args.tariff c.args.answer c.in-Designed.sheet false c.in-Designed.is (sym c.tariff_valid.ensures ∙ c.if-tariff_valid.false))
+pub returns : goal.returns
+unfolding priced
+returns c = rw (c.in_ok-sheet.was, ← c.tariff_valid.ensures) (held _ _ _ _ c.in_ok-rule.ensures c.price_of.ensures)

@@ -1,19 +1,16 @@
 -- `best_answer` meets its contract: a permitted candidate is judged by its sheet. Assumes nothing.
-use mathlib.Core.Path.{◌∙◌, subst}
-use lib.Dec.{T}
+use mathlib.Core.Path.{◌∙◌}
 use Rattle.rules.specs.Sweep.{best_kept, best_answer}
-use Rattle.rules.specs.declared.Best.{Best}
 use Rattle.rules.proofs.Examined.{judge_permitted}
 use Rattle.sweeping.proofs.best_answer.Goals as goal
 
-pub returns-in-NoneYet : goal.returns-in-NoneYet
+pub returns-in-None : goal.returns-in-None
 unfolding best_answer
-returns-in-NoneYet c = rw c.in-NoneYet.is
+returns-in-None c = rw c.in-None.is
 
-pub returns-in-At : goal.returns-in-At
+pub returns-in-Some : goal.returns-in-Some
 unfolding best_answer best_kept
-returns-in-At c =
-    rw c.in-At.is
+returns-in-Some c =
+    rw c.in-Some.is
     (c.judge.ensures
-    ∙ judge_permitted c.args.plant c.args.concentrations c.in-At.candidate
-    (subst (λ (b : Best). T (best_kept c.args.plant c.args.concentrations b)) c.in-At.is c.requires.2))
+    ∙ judge_permitted c.args.accepted.now.plant c.args.accepted.now.concentrations c.in-Some.candidate (rw c.in-Some.is at c.requires))

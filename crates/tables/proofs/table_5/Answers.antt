@@ -6,4 +6,4 @@ use Rattle.tables.proofs.table_5.Goals as goal
 
 pub returns : goal.returns
 unfolding per_degree decay corrected_age biomass_decay agrees agreeing
-returns c = rw (c.print_row-5.ensures.0, c.print_row-4.ensures.0, c.print_row-3.ensures.0, c.print_row-2.ensures.0, c.print_row.ensures.0)
+returns c = rw c.agreeing.ensures

@@ -1,2 +1,0 @@
--- What the functions over a consent's entries promise.
-pub mod Entries

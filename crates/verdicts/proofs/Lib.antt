@@ -1,0 +1,2 @@
+-- What the step of one rule tells of it.
+pub mod Steps
