@@ -11,8 +11,8 @@
  * that go on with one sweep take turns, or a copy of its state each. A choice
  * takes 9 kB of stack, a works 14 kB, a line of a works, an advance of a sweep
  * and a choice that is priced 10 kB; examining, also in a sweep or priced,
- * explaining, a census, a load, a target, existing tanks and the start of a
- * sweep take 3 kB. The archive needs memcpy and memset, and nothing more.
+ * takes 4 kB, explaining, a census, a load, a target, existing tanks and the
+ * start of a sweep 3 kB. The archive needs memcpy and memset, and nothing more.
  *
  * What the caller sees to
  *   - request points to request_length readable bytes, log to log_length,

@@ -80,6 +80,9 @@ for file in sorted(glob.glob("crates/*/src/**/*.rt", recursive=True)):
         p.exported = bool(m.group(1))
         functions.append(p)
 plain = {e.name for e in enums if not any(carried for _, carried in e.variants)}
+# Zeros, or other figures that nothing reads, in the place of what there is none of.
+fillers = (r"(?:Err\(_\)|None) => (?:\[|\w+::(?:default|none)\()|None => \[[^\]]*\b0, 0|unwrap_or\(0\)|unwrap_or_default\(\)"
+    r"|return \w+::none\(\)|\[0; \w+\];\s*(?:if let|match)|::default\(\); MOST|\} else \{\s*Err\(Refusal::\w+\)\s*\}\s*\}\)")
 zeros = r"\b[A-Z]\w+ \{\s*(?:\w+: (?:0|Date \{[^}]*\}|Verdict::Kept),?\s*){2,}"
 
 def value_or_refusal(enum):
@@ -91,7 +94,7 @@ def found(pattern):
     return [f.line(f.start + m.start()) for f in functions for m in re.finditer(pattern, f.body, re.S)]
 def having(pattern, which=lambda f: True):
     return [f for f in functions if which(f) and re.search(pattern, f.body, re.S)]
-named_codes = [f for f in having(r"\bmatch\b|_number\(|refusal_number") if f.name.endswith("_number") and f.result in NUMBERS]
+named_codes = [f for f in having(r"\bmatch\b|_number\(|refusal_number|\{\s*\w+ as \w+\s*\}") if f.name.endswith("_number") and f.result in NUMBERS]
 written = [f for f in functions if not f.exported and ("written", "&mut u64") in f.params]
 
 def skeleton(f):
@@ -120,10 +123,12 @@ def loops(wanted):
     """The loops of a kind: counting by hand, over an index into a list, over another range, and others."""
     def kind(f, m):
         inner, v = f.body[m.end() : past(f.body, m.end() - 1)], m.group(2)
-        if v and v != "_" and ".." in m.group():
+        if v and v != "_" and ".." in re.sub(r"\[[^\]]*\]", "", m.group()):
             return "index" if re.search(rf"\[[^\]]*\b{v}\b", inner) else "range"
-        return "by hand" if re.search(r"\b\w+ [+-]= 1;", inner) and not v else "other"
-    found = [(f, m) for f in functions for m in re.finditer(r"\b(for (\w+) in|while|loop)\b[^{;]*\{", f.body)]
+        if ".enumerate()" in m.group():
+            return "numbered"
+        return "by hand" if re.search(r"\b\w+ [+-]= \w+;", inner) and not m.group(1).startswith("for") else "other"
+    found = [(f, m) for f in functions for m in re.finditer(r"\b(for (?:(\w+)|\([^)]*\)) in|while|loop)\b[^{;]*\{", f.body)]
     return [f.line(f.start + m.start()) for f, m in found if kind(f, m) == wanted]
 
 def shared(keys):
@@ -147,20 +152,28 @@ def frames():
 def switches():
     """Functions that match on a parameter of some kinds and call different functions in its arms."""
     kinds = {e.name for e in enums if not value_or_refusal(e)} - {"Refusal"}
-    matched = [(f, m) for f in functions if (m := re.search(r"match (\w+) \{", f.body)) and f.name not in RIGHT]
-    calls = lambda f: set(re.findall(r"=> ((?:\w+::)*[a-z]\w+)\(", f.body))
-    return [f for f, m in matched if dict(f.params).get(m.group(1)) in kinds and len(calls(f)) > 1]
+    matched = [(f, m) for f in functions if (m := re.search(r"match \(?((?:\w+\.)*\w+)[^{]*\{", f.body)) and f.name not in RIGHT]
+    calls = lambda f: set(re.findall(r"=> (?:\{\s*)?((?:\w+::)*[a-z]\w+)\(", f.body))
+    return [f for f, m in matched if type_of(f, m.group(1)) in kinds and len(calls(f)) > 1]
+
+def type_of(f, path):
+    """The type of a parameter or of a field in one, without its reference."""
+    first, *rest = path.split(".")
+    t = dict(f.params).get(first, "").lstrip("&")
+    for field in rest:
+        t = next((s.fields.get(field, "") for s in structs if s.name == t), "")
+    return t
 
 def beside(f):
     numbers = {n for n, t in f.params if t in NUMBERS}
-    lists, entries = any(re.match(r"(&(mut )?)?\[", t) for _, t in f.params), {s.name for s in structs if "count" in s.fields} & {t for _, t in f.params}
+    lists, entries = any(re.match(r"(&(mut )?)?\[", t) for _, t in f.params), {s.name for s in structs if "count" in s.fields} & {t.lstrip("&") for _, t in f.params}
     return lists and numbers & {"count", "at", "i", "from", "room"} or entries and numbers & {"n", "lines", "i"} or {"count", "i"} <= numbers
 
 PARTS = {
     "1a": ("enums of the shape of Option or Result", lambda: [e for e in enums if value_or_refusal(e)]),
     "1b": ("structs with a flag or a number code beside values", lambda: [s for s in structs if s.name not in RIGHT and any(t in ("bool", "Verdict", "io::Result<()>") or n == "number" for n, t in s.fields.items())]),
     "1c": ("functions that answer by a number code", lambda: [f for f in functions if f in named_codes + written]),
-    "1d": ("functions with a number or zeros that stand for none", lambda: [f for f in having(rf"\bNONE_YET\b|\bUNFINISHED\b|{zeros}|\b(?:{REFUSED}|NoTerm|NoneYet|Held)(?:\(_\))? => \[?0|\w\.(?!count)\w+ == 0 \{{|\(\w+ == 0\) &") if f not in named_codes + written]),
+    "1d": ("functions with a number or zeros that stand for none", lambda: [f for f in having(rf"\bNONE_YET\b|\bUNFINISHED\b|{zeros}|\b(?:{REFUSED}|NoTerm|NoneYet|Held)(?:\(_\))? => \[?0|\w\.(?!count)\w+ == 0 \{{|\(?\w+ == 0\)? &&? |{fillers}") if f not in named_codes + written]),
     "1e": ("arms that pass a refusal on, where `?` does", lambda: found(rf"::{REFUSED}\((\w+)\) => (?:return )?(?!\w*:*\w*_number)[\w:]+\(\1\)")),
     "2a": ("twin functions", lambda: [f"{f.line(f.at)} ~ {g[0].name}" for g in twins() for f in g]),
     "2b": ("functions that only hand their parameters on", lambda: handing_on),
@@ -168,12 +181,13 @@ PARTS = {
     "3a": ("loops that count by hand", lambda: loops("by hand")),
     "3b": ("loops over an index", lambda: loops("index")),
     "3c": ("loops over another range, where a chain does", lambda: loops("range")),
+    "3e": ("loops over a list with the number of each element", lambda: loops("numbered")),
     "3d": ("bodies that the standard library has", lambda: found(STANDARD)),
     "4a": ("kinds out of numbers", lambda: having(r"\b\d+ => (\w+::)*[A-Z]\w+")),
     "4b": ("numbers out of kinds", lambda: named_codes),
-    "4c": ("structs out of words", lambda: [f for f in functions if f.result in {s.name for s in structs} and {"bytes", "words", "state"} & set(dict(f.params)) or f.name.startswith("decode")]),
+    "4c": ("structs out of words", lambda: [f for f in functions if re.sub(r"Result<(\w+),.*|Option<(\w+)>", r"\1\2", f.result) in {s.name for s in structs} - {"Reply"} and {"bytes", "words", "state"} & set(dict(f.params)) or f.name.startswith("decode")]),
     "4d": ("lists of numbers out of structs", lambda: having(r"\[\s*(?:\w+\.\w+,\s*){3,}")),
-    "4e": ("order and packing by hand", lambda: having(r"[*/%] (?:4_096|2_097_152|4_294_967_296)|(\w+)\.(\w+) < (\w+)\.\2\)")),
+    "4e": ("order and packing by hand", lambda: having(r"[*/%] (?:4_096|2_097_152|4_294_967_296)|(\w+)\.(\w+) < (\w+)\.\2\b|\* 6 \+|[/%] (?:tanks|6)\b")),
     "4f": ("printing by hand", lambda: having(r"/= 10\b|\bMARK\b|\b(?:text|decimal|whole|tenths|write|write_all)!?\((?:out|self)", lambda f: f.name != "main")),
     "4g": ("structs of zeros, where Default does", lambda: found(zeros)),
     "5a": ("facts in the requires of three functions or more", lambda: shared(lambda f: [re.sub(r"^\((.*)\)$", r"\1", a) for a in f.requires])),

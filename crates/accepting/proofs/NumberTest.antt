@@ -8,12 +8,12 @@ use borrow.Author.Tests.{lt-ltb, ne_eqb}
 use lib.Dec.{T, ltb, eqb}
 use lib.Ieee.{Float, nan, inf, fin, binary32, up, down, of_bits, lt, eq, le, is_nan}
 use lib.Ieee.Fits.{up_pos}
+use Rattle.std.proofs.lemmas.Bool.Decides.{nat_tests}
 use Rattle.rules.specs.LabReadings.{no_number}
 
 -- zero is at most any whole number
 zero_at_most : (n : ℕ) → (ltb 0 n || (eqb 0 n && true)) ≡ true
-zero_at_most zero = refl
-zero_at_most (suc n) = simp (lt-ltb 0 (suc n) (zero-lt-suc n))
+zero_at_most n = grind (arith, nat_tests)
 
 pub number_test : (x : Float) → not (le (of_bits binary32 0) x && lt x (of_bits binary32 0x7f80_0000)) ≡ no_number x
 unfolding le lt eq of_bits no_number

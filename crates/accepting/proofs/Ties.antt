@@ -1,21 +1,18 @@
 -- `closest` against a whole number. Assumes nothing.
 use mathlib.Core.Path.{◌≡◌, refl}
 use Prim.Native.Nat.{ℕ, ◌*◌, ◌/◌, ◌%◌, ◌≤◌, ◌<◌, compare, Ordering}
-use native.Mathlib.Nat.{le_of_lt, le_of_eq, le_trans, le-div_iff_mul-le, div-eq_of_lt, mod-eq_of_lt, div-one, mod-one}
-use native.Mathlib.Omega.{arith}
-use lib.Dec.{T, is_le, compare_is_eq, le→leb, eqb→eq, lit<}
+use native.Mathlib.Nat.{le_of_eq, le_trans, le-div_iff_mul-le, div-eq_of_lt, mod-eq_of_lt, div-one, mod-one}
+use native.Mathlib.Omega.{arith, compare-eq, compare-gt}
+use lib.Dec.{lit<}
 use lib.Ieee.Nearest.{closest, nearest-ge, closest_mono}
 
 compare_less : (a b : ℕ) → a < b → compare a b ≡ Ordering.lt
-compare_less a b h = go (compare a b) (le→leb a b (le_of_lt h)) (λ t. differ (eqb→eq a b t))
+compare_less a b h = go (compare a b) refl
   where
-    differ : a ≡ b → ⊥
-    differ e = omega arith
-
-    go : (o : Ordering) → T (is_le o) → (T (compare_is_eq o) → ⊥) → o ≡ Ordering.lt
-    go Ordering.lt t n = refl
-    go Ordering.eq t n = absurd (n tt)
-    go Ordering.gt t n = absurd t
+    go : (o : Ordering) → compare a b ≡ o → o ≡ Ordering.lt
+    go Ordering.lt e = refl
+    go Ordering.eq e = absurd (omega (arith, compare-eq a b e))
+    go Ordering.gt e = absurd (omega (arith, compare-gt a b e))
 
 -- less than a half is nearest to 0
 pub closest_zero : (a d : ℕ) → a * 2 < d → closest a d ≡ 0

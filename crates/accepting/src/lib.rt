@@ -13,7 +13,8 @@ ghost use Rattle.accepting.specs.Conversion.{refusal_of, judge_result, convert, 
 ghost use Rattle.accepting.specs.Acceptance.{acceptance_of};
 
 use rules::{
-    Accepted, Concentrations, Parameter, Plant, PrimarySettling, Reading, Readings, Refusal, Way,
+    Accepted, Concentrations, DailyFlow, Parameter, Plant, PrimarySettling, Reading, Readings,
+    Refusal, Way,
 };
 
 // Why an f32 has no thousandths: it is no number, or at or above the cut-off 2^23.
@@ -166,28 +167,35 @@ fn per_head(parameter: Parameter, settling: PrimarySettling) -> u64
 
 // A head count: its range, then its thousandths.
 #[tactic(auto, using(crate::proofs::Conversions::heads))]
-fn convert_heads(plant: &Plant, parameter: Parameter, heads: u32) -> Result<u64, Refusal>
-    requires { 0 < plant.now.flow }
-    ensures { result ≡ convert plant.now.flow plant.now.primary_settling parameter (Reading.Heads heads) }
+fn convert_heads(
+    flow: DailyFlow,
+    settling: PrimarySettling,
+    parameter: Parameter,
+    heads: u32,
+) -> Result<u64, Refusal>
+    ensures { result ≡ convert flow settling parameter (Reading.Heads heads) }
 {
     if !rounding::within(1, 2_000_000, heads) {
         return Err(Refusal::ReadingRange);
     }
-    let grams = per_head(parameter, plant.primary_settling);
-    let flow = plant.flow;
-    let n = rounding::round_up(u64::from(heads) * grams * 100, u64::from(flow));
+    let grams = per_head(parameter, settling);
+    let n = rounding::round_up(u64::from(heads) * grams * 100, flow.get());
     judge_result(parameter, n)
 }
 
 // One reading, at the plant's daily flow and primary settling: 2, then 3, else its thousandths.
-pub fn convert(plant: &Plant, parameter: Parameter, reading: Reading) -> Result<u64, Refusal>
-    requires { 0 < plant.now.flow }
-    ensures { result ≡ convert plant.now.flow plant.now.primary_settling parameter reading }
+pub fn convert(
+    flow: DailyFlow,
+    settling: PrimarySettling,
+    parameter: Parameter,
+    reading: Reading,
+) -> Result<u64, Refusal>
+    ensures { result ≡ convert flow settling parameter reading }
 {
     match reading {
         Reading::Measured(x) => judge_result(parameter, to_thousandths(x, 1)?),
         Reading::Below(x) => judge_result(parameter, to_thousandths(x, 2)?),
-        Reading::Heads(n) => convert_heads(plant, parameter, n),
+        Reading::Heads(n) => convert_heads(flow, settling, parameter, n),
     }
 }
 
@@ -206,14 +214,16 @@ fn ratio_refused(way: Way, bod: u64, cod: u64) -> bool
 // The readings of a plant: 2 and 3 for each in turn; then 4; else the concentrations.
 #[tactic(auto, unfolding(crate::specs::Conversion::accept_readings, crate::specs::Conversion::gather))]
 fn accept_readings(plant: &Plant, readings: Readings) -> Result<Concentrations, Refusal>
-    requires { 0 < plant.now.flow }
+    requires { Between 1 200_000 plant.now.flow }
     ensures { result ≡ accept_readings plant.now readings }
 {
-    let bod = convert(plant, Parameter::Bod, readings.bod)?;
-    let cod = convert(plant, Parameter::Cod, readings.cod)?;
-    let solids = convert(plant, Parameter::Solids, readings.solids)?;
-    let nitrogen = convert(plant, Parameter::Nitrogen, readings.nitrogen)?;
-    let phosphorus = convert(plant, Parameter::Phosphorus, readings.phosphorus)?;
+    let flow = DailyFlow::new(u64::from(plant.flow));
+    let settling = plant.primary_settling;
+    let bod = convert(flow, settling, Parameter::Bod, readings.bod)?;
+    let cod = convert(flow, settling, Parameter::Cod, readings.cod)?;
+    let solids = convert(flow, settling, Parameter::Solids, readings.solids)?;
+    let nitrogen = convert(flow, settling, Parameter::Nitrogen, readings.nitrogen)?;
+    let phosphorus = convert(flow, settling, Parameter::Phosphorus, readings.phosphorus)?;
     if ratio_refused(plant.way, bod, cod) {
         return Err(Refusal::CodRatio);
     }

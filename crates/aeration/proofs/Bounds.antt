@@ -3,8 +3,9 @@ use Prim.Native.Nat.{ℕ, ◌-◌, ◌*◌, ◌≤◌}
 use native.Mathlib.Nat.{mul-le-mul}
 use native.Mathlib.Omega.{arith}
 use mathlib.Core.Bool.{false}
-use Rattle.rules.specs.Limits.{most_nitrogen, most_oxygen}
-use Rattle.rules.specs.Ranges.{Between, GridFraction, PlantRanges, ConcentrationRanges, ReactorBounds}
+use Rattle.rules.proofs.FigureBounds.{most_nitrogen, most_oxygen}
+use Rattle.rules.specs.Ranges.{Between, GridFraction, PlantRanges, ConcentrationRanges}
+use Rattle.rules.proofs.FigureBounds.{ReactorBounds}
 use Rattle.rules.specs.AgeNitrate.{corrected_age}
 use Rattle.rules.specs.CodBalance.{oxygen_by_cod, carbon_oxygen_by_cod}
 use Rattle.rules.specs.AerationSteps.{aeration_uptake, carbon_oxygen, carbon_oxygen_in, nitrification_oxygen, denitrified_by_bod, saved_oxygen, hourly_oxygen, oxygen_transfer, paused_transfer, transfer_of, aeration_by, aeration_saving, aeration_of}

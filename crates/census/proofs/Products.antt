@@ -3,9 +3,9 @@
 use mathlib.Core.Path.{◌≡◌, refl, sym, ap, ap₂, ◌∙◌}
 use mathlib.Core.Bool.{Bool, true, false, cond}
 use mathlib.Core.List.{List}
-use Prim.Native.Nat.{ℕ, ◌+◌, ◌*◌, ◌≤◌, ◌<◌}
+use Prim.Native.Nat.{ℕ, ◌+◌, ◌*◌, ◌<◌}
 use native.Mathlib.Omega.{arith}
-use borrow.Author.Tests.{eqb-true, eqb-false, ne_eqb}
+use borrow.Author.Tests.{eqb-true, eqb-false}
 use lib.Dec.{T, eqb}
 use Rattle.std.specs.Prelude.{Ok, Err}
 use Rattle.rules.specs.Sums.{values_from}
@@ -34,15 +34,6 @@ first_broken : (v w : Verdict) (k : ℕ) → (k ≡ 0 → ⊥) → one (answer_n
 unfolding answer_number
 first_broken (Ok u) w k apart = omega (arith, one_other 0 k (λ e. apart (sym e)))
 first_broken (Err n) w k apart = rw (one_other (refusal_number n) 0 (λ e. let b = refusal_number_between n in omega arith)) (omega arith)
-
--- the two cases of `pairs`
-pub pairs_kept : (fraction tank : List ℕ) (tanks : ℕ) → at fraction 0 * at tank 0 ≡ pairs fraction tank tanks 0
-unfolding pairs
-pairs_kept fraction tank tanks = refl
-
-pub pairs_broken : (fraction tank : List ℕ) (tanks k : ℕ) → 1 ≤ k → at fraction k * tanks + at fraction 0 * at tank k ≡ pairs fraction tank tanks k
-unfolding pairs
-pairs_broken fraction tank tanks k least = rw (ne_eqb k 0 (λ e. omega arith))
 
 module _ (p : Plant) (x : Concentrations) where
   -- a candidate's number by its fraction's and its tank's

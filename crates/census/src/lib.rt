@@ -3,35 +3,36 @@
 // are products.
 #![tactic(auto)]
 
-ghost use Rattle.std.specs.Prelude.{◌≡◌, ◌+◌, ◌-◌, ◌*◌, ◌≤◌, ◌<◌};
-ghost use Rattle.rules.specs.Limits.{least_ratio, most_ratio, least_time, most_time};
+ghost use Rattle.std.specs.Prelude.{◌≡◌, ◌+◌, ◌*◌, ◌≤◌, ◌<◌};
+ghost use Rattle.rules.specs.Limits.{least_ratio, least_time, most_time};
 ghost use Rattle.rules.specs.Sums.{span, values_from};
-ghost use Rattle.rules.specs.Ranges.{GridFraction, GridRatio};
+ghost use Rattle.rules.specs.Ranges.{GridRatio};
 ghost use Rattle.rules.specs.Census.{answer_numbers, counted, census};
 ghost use Rattle.census.specs.Tallies.{fractions, most_tanks, fraction_number, tank_number, fraction_count, tank_count, Tally, AtMost, pairs};
 
 use reactor::Basis;
-use rules::{ANSWER_NUMBERS, Accepted, Plant, Readings, Refusal};
+use rules::{
+    ANSWER_NUMBERS, Accepted, GridFraction, GridRatio, GridTime, Plant, Readings, Refusal,
+};
 use settling::Thickened;
+use std::array;
 
 // The number of a fraction's verdict: a place in the counts, as that of a tank's verdict is.
 #[tactic(auto, unfolding(crate::specs::Tallies::fraction_number))]
-fn fraction_number(basis: &Basis, fraction: u32) -> usize
-    requires { GridFraction fraction }
+fn fraction_number(basis: &Basis, fraction: GridFraction) -> usize
     ensures { (result ≡ fraction_number basis.now.data.plant basis.now.data.concentrations fraction) × (result < answer_numbers) }
 {
     let reactor = basis.reactor(fraction);
-    listing::answer_number(basis.fraction_verdict(reactor)) as usize
+    listing::answer_number(basis.fraction_verdict(&reactor)) as usize
 }
 
 // The number of a settling tank's verdict, from the bottom sludge of its thickening time.
 #[tactic(auto, unfolding(crate::specs::Tallies::tank_number))]
-fn tank_number(accepted: &Accepted, return_ratio: u32, thickened: Thickened) -> usize
-    requires { GridRatio return_ratio × (thickened.index ≡ accepted.now.plant.sludge_volume_index) }
-    ensures { (result ≡ tank_number accepted.now.plant return_ratio thickened.time) × (result < answer_numbers) }
+fn tank_number(thickened: &Thickened, ratio: GridRatio) -> usize
+    ensures { (result ≡ tank_number thickened.now.accepted.now.plant ratio thickened.now.time) × (result < answer_numbers) }
 {
-    let settling = thickened.tank(accepted, return_ratio);
-    listing::answer_number(settling::tank_verdict(&accepted.plant, settling)) as usize
+    let settling = thickened.tank(ratio);
+    listing::answer_number(settling::tank_verdict(&thickened.accepted.plant, &settling)) as usize
 }
 
 // The verdicts of the grid's fractions, tallied. What runs through the grid here and below are its own figures, no index.
@@ -41,7 +42,7 @@ fn fraction_tally(accepted: &Accepted) -> [u64; ANSWER_NUMBERS]
     let basis = Basis::new(*accepted);
     let mut tally = [0; ANSWER_NUMBERS];
     'fraction: for f in rules::LEAST_FRACTION..=rules::MOST_FRACTION {
-        tally[fraction_number(&basis, f)] += 1;
+        tally[fraction_number(&basis, GridFraction::new(u64::from(f)))] += 1;
     }
     tally
 }
@@ -52,12 +53,11 @@ fn tank_tally(accepted: &Accepted, last: u32) -> [u64; ANSWER_NUMBERS]
     requires { GridRatio last }
     ensures { Tally (tank_count accepted.now.plant (span least_ratio last) (span least_time most_time)) result }
 {
-    let index = accepted.plant.sludge_volume_index;
     let mut tally = [0; ANSWER_NUMBERS];
     'time: for h in rules::LEAST_TIME..=rules::MOST_TIME {
-        let thickened = Thickened::new(index, h);
+        let thickened = Thickened::new(accepted, GridTime::new(u64::from(h)));
         'ratio: for r in rules::LEAST_RATIO..=last {
-            tally[tank_number(accepted, r, thickened)] += 1;
+            tally[tank_number(&thickened, GridRatio::new(u64::from(r)))] += 1;
         }
     }
     tally
@@ -72,7 +72,7 @@ fn pair_count(fraction: u64, kept: u64, tank: u64, tanks: u64) -> u64
     fraction * tanks + kept * tank
 }
 
-// The counts of the pairs of a fraction and a settling tank by their numbers. One number is the place in three lists.
+// The counts of the pairs of a fraction and a settling tank by their numbers; of the number 0, both keep their rules.
 fn pair_counts(
     fraction: [u64; ANSWER_NUMBERS],
     tank: [u64; ANSWER_NUMBERS],
@@ -82,12 +82,13 @@ fn pair_counts(
     ensures { result ≡ values_from 0 answer_numbers (pairs fraction tank tanks) }
 {
     let kept = fraction[0];
-    let mut counts = [0; ANSWER_NUMBERS];
-    counts[0] = kept * tank[0];
-    'number: for k in 1..ANSWER_NUMBERS {
-        counts[k] = pair_count(fraction[k], kept, tank[k], tanks);
-    }
-    counts
+    array::from_fn(|k| {
+        if k == 0 {
+            kept * tank[0]
+        } else {
+            pair_count(fraction[k], kept, tank[k], tanks)
+        }
+    })
 }
 
 // The counts of accepted data.

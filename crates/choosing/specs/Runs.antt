@@ -2,7 +2,7 @@
 -- which it is gone through or passed over. Assumes nothing.
 use Rattle.std.specs.Prelude.{ℕ, ◌+◌, ◌-◌, ◌*◌, ◌≤◌, ◌<◌, ◌≡◌, T, Ok, Err, Option, Some, None}
 use Rattle.rules.specs.Rules.{verdict}
-use Rattle.rules.specs.Limits.{least_ratio, least_time, most_mass}
+use Rattle.rules.specs.Limits.{least_ratio, least_time}
 use Rattle.rules.specs.AgeNitrate.{on_grid}
 use Rattle.rules.specs.ReactorSteps.{reactor_of}
 use Rattle.rules.specs.Ranges.{GridFraction}
@@ -24,11 +24,10 @@ mass_by (Err n) mass = None
 unfoldable pub kept_mass : Plant → Concentrations → ℕ → Option ℕ
 kept_mass p x f = mass_by (verdict (fraction_rules p x (reactor_of p x f))) (reactor_of p x f).mass
 
--- a fraction of the grid keeps its rules with this mass, in its limit
+-- a fraction of the grid keeps its rules with this mass
 pub record Covered (d : Accepted) (f mass : ℕ) : Type 0 where
   pub fraction : GridFraction f
   pub value : kept_mass d.plant d.concentrations f ≡ Some mass
-  pub most : mass ≤ most_mass
 
 -- the place of a return ratio and a thickening time in the table of tanks
 abbrev pub tank_index : ℕ → ℕ → ℕ

@@ -1,7 +1,7 @@
 -- The table of settling tanks. Assumes nothing.
 use Rattle.std.specs.Prelude.{ℕ, ◌+◌, ◌/◌, ◌%◌, ◌<◌, ◌≡◌, List, length, get_or, Ok, Err, Option, Some, None, IfSome, ◌-◌, ◌≢◌}
 use Rattle.rules.specs.Rules.{verdict}
-use Rattle.rules.specs.Limits.{least_ratio, least_time, most_reactor_solids}
+use Rattle.rules.specs.Limits.{least_ratio, least_time, least_solids, most_reactor_solids}
 use Rattle.rules.specs.ReactorSteps.{reactor_solids}
 use Rattle.rules.specs.SettlingSteps.{settling_of}
 use Rattle.rules.specs.Ranges.{Between}
@@ -23,7 +23,7 @@ tank_of p r h =
 
 -- the limits of a tank that keeps the rules
 abbrev pub TankBounds : Tank → Type 0
-TankBounds t = Between 1 most_reactor_solids t.solids
+TankBounds t = Between least_solids most_reactor_solids t.solids
 
 -- the tank at a place of the table, if it keeps the rules of the tank, in its limits
 abbrev pub TankAt : Plant → ℕ → Option Tank → Type 0

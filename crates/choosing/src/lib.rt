@@ -5,27 +5,26 @@
 mod keys;
 mod tanks;
 
-ghost use Rattle.std.specs.Prelude.{◌≡◌, ◌≤◌, IfSome};
-ghost use Rattle.rules.specs.Limits.{most_mass};
-ghost use Rattle.rules.specs.Ranges.{GridFraction};
+ghost use Rattle.std.specs.Prelude.{◌≡◌};
 ghost use Rattle.rules.specs.Choosing.{grid, ChosenAmong, Chosen};
 ghost use Rattle.rules.specs.TwoColumns.{TwoColumns};
 ghost use Rattle.choosing.specs.Runs.{kept_mass};
 
 pub use keys::{Key, lesser};
 use reactor::Basis;
-use rules::{Accepted, Answer, LEAST_FRACTION, MOST_FRACTION, Plant, Readings, Refusal};
-use settling::Thickened;
+use rules::{
+    Accepted, Answer, GridCandidate, GridFraction, LEAST_FRACTION, MOST_FRACTION, Plant, Readings,
+    Refusal, SludgeMass,
+};
 pub use tanks::{MOST_TANKS, Tanks, per_fraction};
 
 // The sludge mass at a fraction, if it keeps the rules of the fraction.
 #[tactic(auto, unfolding(crate::specs::Runs::kept_mass))]
-pub fn kept_mass(basis: &Basis, fraction: u32) -> Option<u64>
-    requires { GridFraction fraction }
-    ensures { (result ≡ kept_mass basis.now.data.plant basis.now.data.concentrations fraction) × IfSome result (λ m. m ≤ most_mass) }
+pub fn kept_mass(basis: &Basis, fraction: GridFraction) -> Option<SludgeMass>
+    ensures { result ≡ kept_mass basis.now.data.plant basis.now.data.concentrations fraction }
 {
     let reactor = basis.reactor(fraction);
-    basis.fraction_verdict(reactor).ok()?;
+    basis.fraction_verdict(&reactor).ok()?;
     Some(reactor.mass)
 }
 
@@ -39,10 +38,9 @@ pub fn choose_accepted(accepted: &Accepted) -> Answer
     let Some(key) = tanks.fractions(LEAST_FRACTION, MOST_FRACTION + 1) else {
         return Err(Refusal::NoDesign);
     };
-    let candidate = key.candidate();
-    let reactor = basis.reactor(candidate.fraction);
-    let thickened = Thickened::new(accepted.plant.sludge_volume_index, candidate.thickening);
-    examining::judge_tank(accepted, candidate, reactor, thickened)
+    let candidate = GridCandidate::new(key.candidate());
+    let reactor = basis.reactor(candidate.fraction());
+    examining::judge_tank(accepted, candidate, &reactor)
 }
 
 // What choosing answers for any plant data and lab readings.

@@ -2,7 +2,6 @@
 ghost use Rattle.std.specs.Prelude.{◌≡◌, ◌≤◌, ◌<◌, ◌+◌, IfSome};
 ghost use Rattle.std.proofs.Props.{props};
 ghost use Rattle.rules.specs.Limits.{least_fraction, most_fraction};
-ghost use Rattle.rules.specs.Ranges.{GridRatio};
 ghost use Rattle.rules.specs.Sweep.{per_fraction};
 ghost use Rattle.choosing.specs.Runs.{Covered, LeastOfRun, LeastOfFractions};
 ghost use Rattle.choosing.specs.Tanks.{tank_of, TankBounds, TankAt, Filled, TimeFilled};
@@ -11,7 +10,10 @@ use crate::kept_mass;
 use crate::keys::{Key, first_of, lesser};
 use examining::largest_return_ratio;
 use reactor::{Basis, reactor_solids, reactor_volume};
-use rules::{Accepted, LEAST_RATIO, LEAST_TIME, MOST_TIME, TankFlow};
+use rules::{
+    GridFraction, GridRatio, GridTime, LEAST_RATIO, LEAST_TIME, MOST_TIME, ReactorSolids,
+    SludgeMass, TankFlow,
+};
 use settling::{Thickened, tank_verdict};
 
 // What the table holds of a settling tank: E', g/m3, and the settling volume, m3.
@@ -24,10 +26,11 @@ pub struct Tank {
 // The most tanks that a fraction has: those of vertical flow.
 pub const MOST_TANKS: usize = 426;
 
-// The settling tanks by return ratio, and for each by thickening time; none where a tank breaks a rule of the tank.
+// The settling tanks by return ratio, and for each by thickening time; none where a tank breaks a rule of the tank. By one number, since
+// a sweep is put down at a number of its order.
 pub type Table = [Option<Tank>; MOST_TANKS];
 
-// The table lies with the caller, on whose stack it is filled: returned, it would lie there three times.
+// The table lies with the caller, on whose stack it is filled: returned, it would lie there twice.
 #[derive(Drop)]
 pub struct Tanks<'a> {
     pub basis: &'a Basis,
@@ -47,28 +50,29 @@ pub fn per_fraction(flow: TankFlow) -> u32
 
 // A settling tank, if it keeps the rules of the tank.
 #[tactic(auto, unfolding(crate::specs::Tanks::tank_of))]
-fn tank_of(accepted: &Accepted, return_ratio: u32, thickened: Thickened) -> Option<Tank>
-    requires { GridRatio return_ratio × (thickened.index ≡ accepted.now.plant.sludge_volume_index) }
-    ensures { (result ≡ tank_of accepted.now.plant return_ratio thickened.time) × IfSome result TankBounds }
+fn tank_of(thickened: &Thickened, ratio: GridRatio) -> Option<Tank>
+    ensures { (result ≡ tank_of thickened.now.accepted.now.plant ratio thickened.now.time) × IfSome result TankBounds }
 {
-    let tank = thickened.tank(accepted, return_ratio);
-    tank_verdict(&accepted.plant, tank).ok()?;
-    let solids = reactor_solids(accepted.plant.process, tank.solids);
+    let plant = &thickened.accepted.plant;
+    let tank = thickened.tank(ratio);
+    tank_verdict(plant, &tank).ok()?;
+    let solids = reactor_solids(plant.process, tank.solids);
     Some(Tank {
-        solids: solids as u32,
-        volume: tank.volume as u32,
+        solids: solids.get() as u32,
+        volume: tank.volume.get() as u32,
     })
 }
 
-// Fills in the tanks of one thickening time. In the order of the places instead a choice takes a tenth longer.
+// Fills in the tanks of one thickening time, a loop since the table is written in place. In the order of the places instead a choice
+// takes a tenth longer.
 #[tactic(auto, using(crate::proofs::Filling::ratio_most))]
-fn fill(table: &mut Table, accepted: &Accepted, thickened: Thickened)
-    requires { thickened.index ≡ accepted.now.plant.sludge_volume_index }
-    ensures { TimeFilled accepted.now.plant thickened.time table.old table.new }
+fn fill(table: &mut Table, thickened: &Thickened)
+    ensures { TimeFilled thickened.now.accepted.now.plant thickened.now.time table.old table.new }
 {
-    'ratio: for r in LEAST_RATIO..largest_return_ratio(accepted.plant.tank) + 1 {
-        let i = (r - LEAST_RATIO) * 6 + (thickened.time - LEAST_TIME);
-        table[i as usize] = tank_of(accepted, r, thickened);
+    let time = thickened.time.get() as u32 - LEAST_TIME;
+    'ratio: for r in LEAST_RATIO..largest_return_ratio(thickened.accepted.plant.tank) + 1 {
+        let i = (r - LEAST_RATIO) * 6 + time;
+        table[i as usize] = tank_of(thickened, GridRatio::new(u64::from(r)));
     }
 }
 
@@ -79,8 +83,10 @@ impl<'a> Tanks<'a> {
     {
         let accepted = &basis.data;
         'time: for h in LEAST_TIME..=MOST_TIME {
-            let thickened = Thickened::new(accepted.plant.sludge_volume_index, h);
-            fill(table, accepted, thickened);
+            fill(
+                table,
+                &Thickened::new(accepted, GridTime::new(u64::from(h))),
+            );
         }
         Tanks { basis, table }
     }
@@ -94,12 +100,12 @@ impl<'a> Tanks<'a> {
     }
 
     // The key of a candidate at a covered fraction, by the place of its tank, if the tank keeps the rules of the tank.
-    fn key(&self, mass: u64, fraction: u32, i: u32) -> Option<Key>
+    fn key(&self, mass: SludgeMass, fraction: u32, i: u32) -> Option<Key>
         requires { (i < per_fraction self.now.basis.now.data.plant.tank) × Covered self.now.basis.now.data fraction mass }
         ensures { LeastOfRun self.now.basis.now.data fraction i (i + 1) result }
     {
         let tank = self.tank(i)?;
-        let volume = reactor_volume(mass, u64::from(tank.solids));
+        let volume = reactor_volume(mass, ReactorSolids::new(u64::from(tank.solids)));
         Some(Key {
             total: volume + u64::from(tank.volume),
             fraction,
@@ -108,8 +114,9 @@ impl<'a> Tanks<'a> {
         })
     }
 
-    // The least key at a covered fraction over the tanks from one place of the table on, before another.
-    pub fn run(&self, mass: u64, fraction: u32, from: u32, to: u32) -> Option<Key>
+    // The least key at a covered fraction over the tanks from one place of the table on, before another: the inner loop of `fractions`,
+    // which document 01 names, for a part of a fraction.
+    pub fn run(&self, mass: SludgeMass, fraction: u32, from: u32, to: u32) -> Option<Key>
         requires { (from ≤ to) × (to ≤ per_fraction self.now.basis.now.data.plant.tank) × Covered self.now.basis.now.data fraction mass }
         ensures { LeastOfRun self.now.basis.now.data fraction from to result }
     {
@@ -121,20 +128,20 @@ impl<'a> Tanks<'a> {
     }
 
     // The least key over the fractions from one on, before another. A fraction that is not covered, or that is no lighter than a
-    // covered one before it, is left at its label. Document 01 names the form: nested labelled loops.
+    // covered one before it, is passed over. Document 01 names the form: nested labelled loops.
     pub fn fractions(&self, first: u32, past: u32) -> Option<Key>
         requires { (least_fraction ≤ first) × (first ≤ past) × (past ≤ most_fraction + 1) }
         ensures { LeastOfFractions self.now.basis.now.data first past result }
     {
         let count = per_fraction(self.basis.data.plant.tank);
         let mut best = None;
-        let mut lightest = None;
+        let mut lightest: Option<SludgeMass> = None;
         'fraction: for f in first..past {
-            let Some(mass) = kept_mass(self.basis, f) else {
+            let Some(mass) = kept_mass(self.basis, GridFraction::new(u64::from(f))) else {
                 continue 'fraction;
             };
             if let Some(least) = lightest
-                && least <= mass
+                && least.get() <= mass.get()
             {
                 continue 'fraction;
             }

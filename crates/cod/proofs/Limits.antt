@@ -1,11 +1,12 @@
 -- Limits of the figures from COD for accepted data: each from the limit of the product that it rounds. Assumes nothing.
-use Prim.Native.Nat.{ℕ, ◌+◌, ◌*◌, ◌≤◌, ◌<◌}
+use Prim.Native.Nat.{ℕ, ◌+◌, ◌-◌, ◌*◌, ◌≤◌, ◌<◌}
 use mathlib.Core.Bool.{Bool, true, false, cond}
 use lib.Dec.{leb}
-use native.Mathlib.Nat.{mul-le-mul, div-le_of_le-mul}
+use native.Mathlib.Nat.{mul-le-mul, div-le_of_le-mul, div-mul-le_self}
 use native.Mathlib.Omega.{arith}
 use Rattle.rules.specs.CodBalance.{rounded, particulate_cod, inert_particulate, inert_of_solids, inert_soluble, degradable_cod, dosed_cod, biomass_formed, inert_of_biomass, sludge_as_cod, inorganic_solids, carbon_sludge_by_cod, oxygen_by_cod, removed_by_oxygen}
-use Rattle.rules.specs.Limits.{most_dose, most_removes}
+use Rattle.rules.specs.Limits.{most_dose}
+use Rattle.rules.proofs.FigureBounds.{most_removes}
 use Rattle.rules.proofs.Quotients.{up_le}
 
 -- rounded either way, a quotient is at most a whole number that it does not exceed
@@ -13,6 +14,12 @@ pub rounded_most : (upward : Bool) (a d k : ℕ) → 0 < d → a ≤ k * d → r
 unfolding rounded
 rounded_most true a d k pos h = (up_le a d k pos).1 h
 rounded_most false a d k pos h = div-le_of_le-mul d (omega (arith, h))
+
+-- rounded either way, a quotient times its divisor is at most the dividend and the divisor
+pub rounded_product : (upward : Bool) (a d : ℕ) → 0 < d → rounded upward a d * d ≤ a + d
+unfolding rounded
+rounded_product true a d pos = omega (arith, div-mul-le_self (a + (d - 1)) d)
+rounded_product false a d pos = omega (arith, div-mul-le_self a d)
 
 pub particulate_most : (upward : Bool) (solids : ℕ) → solids ≤ 2_000_000 → particulate_cod upward solids ≤ 2_030_000
 unfolding particulate_cod
@@ -32,25 +39,37 @@ unfolding biomass_formed
 biomass_most upward degradable u h =
     rounded_most upward (67000 * degradable) (100000 + 17 * u) 3_283_000 (omega arith) (omega arith)
 
--- the product that the inert matter of biomass rounds
-pub decayed_product : (biomass u : ℕ) → biomass ≤ 3_283_000 → u ≤ 28_400 → 34 * biomass * u ≤ 3_170_065_000_000
-decayed_product biomass u h k = omega (arith, mul-le-mul h k)
+-- the product that the inert matter of biomass rounds: biomass becomes less with age, and by its quotient no age makes the product
+-- larger than twice the degradable COD's
+pub decayed_product :
+    (upward : Bool) (degradable u : ℕ)
+    → degradable ≤ 4_900_000
+    → u ≤ 42_600
+    → 34 * biomass_formed upward degradable u * u ≤ 658_300_000_000
+unfolding biomass_formed
+decayed_product upward degradable u hd hu =
+    let b = rounded upward (67000 * degradable) (100000 + 17 * u) in
+    let quotient : b * (100000 + 17 * u) ≤ 67000 * degradable + (100000 + 17 * u) = rounded_product upward (67000 * degradable) (100000 + 17 * u) (omega arith) in
+    omega (arith, quotient)
 
-pub decayed_most : (upward : Bool) (biomass u : ℕ) → biomass ≤ 3_283_000 → u ≤ 28_400 → inert_of_biomass upward biomass u ≤ 3_170_065
+pub decayed_most :
+    (upward : Bool) (degradable u : ℕ)
+    → degradable ≤ 4_900_000
+    → u ≤ 42_600
+    → inert_of_biomass upward (biomass_formed upward degradable u) u ≤ 658_300
 unfolding inert_of_biomass
-decayed_most upward biomass u h k =
-    rounded_most upward (34 * biomass * u) 1_000_000 3_170_065 (omega arith) (omega (arith, decayed_product biomass u h k))
+decayed_most upward degradable u hd hu =
+    rounded_most upward (34 * biomass_formed upward degradable u * u) 1_000_000 658_300 (omega arith) (omega (arith, decayed_product upward degradable u hd hu))
 
 pub sludge_as_cod_most :
     (upward : Bool) (inert degradable u : ℕ)
     → inert ≤ 710_500
     → degradable ≤ 4_900_000
-    → u ≤ 28_400
+    → u ≤ 42_600
     → sludge_as_cod upward inert degradable u ≤ 7_170_000
 unfolding sludge_as_cod
 sludge_as_cod_most upward inert degradable u hi hd hu =
-    let formed = biomass_most upward degradable u hd in
-    omega (arith, formed, decayed_most upward (biomass_formed upward degradable u) u formed hu)
+    omega (arith, biomass_most upward degradable u hd, decayed_most upward degradable u hd hu)
 
 pub dosed_most : (dose : ℕ) → dose ≤ most_dose → dosed_cod dose ≤ most_dose
 unfolding dosed_cod
@@ -77,7 +96,7 @@ pub carbon_sludge_most :
     → cod ≤ 4_400_000
     → solids ≤ 2_000_000
     → dose ≤ most_dose
-    → u ≤ 28_400
+    → u ≤ 42_600
     → carbon_sludge_by_cod flow cod solids dose u ≤ 1_360_000_000
 unfolding carbon_sludge_by_cod degradable_cod inorganic_solids
 carbon_sludge_most flow cod solids dose u hf hc hx hd hu =

@@ -33,8 +33,7 @@ pub struct Header {
 }
 
 impl Operation {
-    // The operation that a code stands for, if any. An `Option`: nothing tells one bad header from another, so a `TryFrom` would want an
-    // error type for nothing.
+    // The operation that a code stands for, if any. An `Option`: of a bad header no error is told, as a `TryFrom` would.
     #[tactic(auto, unfolding(crate::specs::Records::operation_of))]
     fn from_code(code: u32) -> Option<Operation>
         ensures { result ≡ operation_of code }
@@ -69,7 +68,7 @@ fn decode_header(bytes: &[u8; 12]) -> Option<Header>
     })
 }
 
-// The call for an operation.
+// The call for an operation, which comes out of a record: each arm is one call.
 fn call(operation: Operation, request: &[u8], page: &mut [u8]) -> Result<Reply, Fault>
     ensures { Call operation request.now page.old (replied result page.new) }
 {
@@ -82,7 +81,8 @@ fn call(operation: Operation, request: &[u8], page: &mut [u8]) -> Result<Reply, 
     }
 }
 
-// Answers a request on the first `room` bytes of a page of at least 512, and leaves the others as they are.
+// Answers a request on the first `room` bytes of a page of at least 512, and leaves the others as they are, so that the whole page comes
+// in.
 fn answer(operation: Operation, request: &[u8], page: &mut [u8], room: usize) -> Reply
     requires { (room ≤ 512) × (512 ≤ length page.old) }
     ensures { Answers operation request.now room page.old page.new result.number result.written }
@@ -93,7 +93,8 @@ fn answer(operation: Operation, request: &[u8], page: &mut [u8], room: usize) ->
     Reply { number, written }
 }
 
-// Fills the buffer from the input, and stops early where the input ends. Gives how many bytes were read.
+// Fills the buffer from the input, and stops early where the input ends. Gives how many bytes were read: `read_exact` does not tell an
+// input that ended before a record from one that ended in it.
 fn read_full(input: &mut impl Read, buffer: &mut [u8]) -> io::Result<usize>
     ensures { IfOk result (λ count. count ≤ length buffer.new) }
 {
@@ -108,7 +109,8 @@ fn read_full(input: &mut impl Read, buffer: &mut [u8]) -> io::Result<usize>
     Ok(count)
 }
 
-// Reads the request that a header announces, answers it and prints the answer. Says whether the request was whole.
+// Reads the request that a header announces, answers it and prints the answer. Says whether the request was whole. Input and output are
+// two handles that `main` lends.
 fn respond(input: &mut impl Read, output: &mut impl Write, header: Header) -> io::Result<bool>
     requires { (header.length ≤ longest_request) × (header.room ≤ 512) }
 {

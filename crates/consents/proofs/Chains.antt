@@ -1,10 +1,10 @@
 -- The recursions over a consent's terms, in the words of the iterators' methods. Assumes nothing.
-use mathlib.Core.Path.{◌≡◌, refl, sym, ap, ◌∙◌}
+use mathlib.Core.Path.{◌≡◌, refl, sym, ap}
 use mathlib.Core.Bool.{Bool, true, false, cond, ◌&&◌}
 use mathlib.Core.List.{List, [], ◌∷◌, map}
 use Prim.Native.Nat.{ℕ, min, ◌≤◌}
 use native.Mathlib.Omega.{arith}
-use Rattle.std.specs.Prelude.{Ok, Option, Some, None}
+use Rattle.std.specs.Prelude.{Option, Some, None}
 use Rattle.std.specs.List.{list_all, filter, fold}
 use denote.Floats.{passes}
 use Rattle.rules.specs.Consent.{consent_valid, every, in_force, lower_of, lowest_target}
@@ -26,30 +26,17 @@ every_all f (term ∷ later) = ap (λ (b : Bool). f term && b) (every_all f late
 abbrev pub targets : Date → List Term → List ℕ
 targets d l = map (λ t. t.nitrate_target) (filter (λ t. in_force t d) l)
 
--- `lower_of` where there is no refusal
-abbrev pub lower : Option ℕ → ℕ → Option ℕ
-lower (Some n) target = Some (min target n)
-lower None target = Some target
-
-pub lower_is : (a : Option ℕ) (target : ℕ) (r : Option ℕ) → Ok r ≡ lower_of target (Ok a) → r ≡ lower a target
-lower_is (Some n) target r e = cc
-lower_is None target r e = cc
-
 -- the lowest of some targets does not depend on which of them comes first
-lower_swapped : (a : Option ℕ) (m n : ℕ) → lower (lower a m) n ≡ lower (lower a n) m
+lower_swapped : (a : Option ℕ) (m n : ℕ) → lower_of (lower_of a m) n ≡ lower_of (lower_of a n) m
 lower_swapped (Some k) m n = let same : min n (min m k) ≡ min m (min n k) = omega arith in ap Some same
 lower_swapped None m n = let same : min n m ≡ min m n = omega arith in ap Some same
 
-fold_lower : (a : Option ℕ) (n : ℕ) (l : List ℕ) → fold lower (lower a n) l ≡ lower (fold lower a l) n
+fold_lower : (a : Option ℕ) (n : ℕ) (l : List ℕ) → fold lower_of (lower_of a n) l ≡ lower_of (fold lower_of a l) n
 fold_lower a n [] = refl
-fold_lower a n (x ∷ l) = rw (lower_swapped a n x) (fold_lower (lower a x) n l)
-
-lower_more : (a : Option ℕ) (n : ℕ) → lower_of n (Ok a) ≡ Ok (lower a n)
-lower_more (Some m) n = refl
-lower_more None n = refl
+fold_lower a n (x ∷ l) = rw (lower_swapped a n x) (fold_lower (lower_of a x) n l)
 
 -- the lowest target in force is the lowest of theirs
-pub lowest_fold : (d : Date) (l : List Term) → lowest_target d l ≡ Ok (fold lower None (targets d l))
+pub lowest_fold : (d : Date) (l : List Term) → lowest_target d l ≡ fold lower_of None (targets d l)
 lowest_fold d [] = refl
 lowest_fold d (term ∷ later) = go (lowest_fold d later) (in_force term d)
   where
@@ -57,8 +44,8 @@ lowest_fold d (term ∷ later) = go (lowest_fold d later) (in_force term d)
     rest = filter (λ t. in_force t d) later
 
     go :
-        lowest_target d later ≡ Ok (fold lower None (targets d later)) → (b : Bool)
-        → cond b (lower_of term.nitrate_target (lowest_target d later)) (lowest_target d later)
-        ≡ Ok (fold lower None (map (λ t. t.nitrate_target) (cond b (term ∷ rest) rest)))
-    go e true = rw e (lower_more (fold lower None (targets d later)) term.nitrate_target ∙ ap Ok (sym (fold_lower None term.nitrate_target (targets d later))))
+        lowest_target d later ≡ fold lower_of None (targets d later) → (b : Bool)
+        → cond b (lower_of (lowest_target d later) term.nitrate_target) (lowest_target d later)
+        ≡ fold lower_of None (map (λ t. t.nitrate_target) (cond b (term ∷ rest) rest))
+    go e true = rw e (sym (fold_lower None term.nitrate_target (targets d later)))
     go e false = e

@@ -1,7 +1,7 @@
 // The terms of the consent: whether they are valid, and the lowest target in force on a day.
 #![tactic(auto)]
 
-ghost use Rattle.std.specs.Prelude.{◌≡◌, Ok};
+ghost use Rattle.std.specs.Prelude.{◌≡◌};
 ghost use Rattle.rules.specs.Consent.{days_of, date_valid, in_force, term_valid, consent_valid, lower_of, target_on};
 
 use rules::{Consent, Date, Refusal, Term};
@@ -70,7 +70,7 @@ pub fn consent_valid(consent: &Consent) -> bool
 // The lower of a target and of the lowest of those before it, if there is one. (With `min` at the end of the chain below the code
 // is proved too, but with `max` there it would be refused for a name in the proof, and not for a wrong target.)
 fn lower_of(lowest: Option<u32>, target: u32) -> Option<u32>
-    ensures { Ok result ≡ lower_of target (Ok lowest) }
+    ensures { result ≡ lower_of lowest target }
 {
     match lowest {
         Some(least) => Some(target.min(least)),

@@ -3,27 +3,18 @@ use Rattle.std.specs.Prelude.{◌≡◌, ◌++◌}
 use Rattle.rules.specs.Rules.{verdict}
 use Rattle.rules.specs.ReactorSteps.{reactor_of}
 use Rattle.rules.specs.SettlingSteps.{settling_of}
-use Rattle.rules.specs.Ranges.{ReactorBounds, SettlingBounds}
 use Rattle.rules.specs.Examining.{fraction_rules, tank_rules, answer_by, sheet_of}
 use Rattle.rules.specs.declared.Plant.{Plant}
 use Rattle.rules.specs.declared.Concentrations.{Concentrations}
 use Rattle.rules.specs.declared.Candidate.{Candidate}
-use Rattle.rules.specs.declared.Reactor.{Reactor}
 use Rattle.rules.specs.Results.{Answer}
 use Rattle.examining.specs.declared.Stages.{Stages}
 
--- the stages are the steps', within their limits, and the verdict is that on the rules of fraction and tank
+-- the stages are the steps', and the verdict is that on the rules of fraction and tank
 pub record StagesOf (p : Plant) (x : Concentrations) (y : Candidate) (s : Stages) : Type 0 where
   pub reactor : s.reactor ≡ reactor_of p x y.fraction
   pub settling : s.settling ≡ settling_of p y.return_ratio y.thickening
   pub verdict : s.verdict ≡ verdict (fraction_rules p x s.reactor ++ tank_rules p s.settling)
-  pub reactor_bounds : ReactorBounds s.reactor
-  pub settling_bounds : SettlingBounds s.settling
-
--- the reactor of a candidate, within its limits
-pub record ReactorAt (p : Plant) (x : Concentrations) (y : Candidate) (r : Reactor) : Type 0 where
-  pub value : r ≡ reactor_of p x y.fraction
-  pub bounds : ReactorBounds r
 
 -- a candidate on the grid whose fraction keeps its rules: what the tank's verdict makes of its sheet
 unfoldable pub judge_tank : Plant → Concentrations → Candidate → Answer

@@ -4,15 +4,17 @@
 ghost use Rattle.std.specs.Prelude.{◌≡◌};
 ghost use Rattle.rules.specs.AgeNitrate.{largest_return_ratio, on_grid};
 ghost use Rattle.rules.specs.Limits.{most_ratio};
-ghost use Rattle.rules.specs.Ranges.{Between, OnGrid, ReactorBounds, SettlingBounds};
+ghost use Rattle.rules.specs.Ranges.{Between};
 ghost use Rattle.rules.specs.Examining.{sheet_from, judge, examine};
-ghost use Rattle.examining.specs.Stages.{StagesOf, ReactorAt, judge_tank};
+ghost use Rattle.rules.specs.ReactorSteps.{reactor_of};
+ghost use Rattle.rules.specs.SettlingSteps.{settling_of};
+ghost use Rattle.examining.specs.Stages.{StagesOf, judge_tank};
 ghost use Rattle.rules.specs.TwoColumns.{TwoColumns};
 
 use reactor::Basis;
 use rules::{
-    Accepted, Aeration, Answer, Candidate, Plant, Reactor, Readings, Refusal, Settling, Sheet,
-    TankFlow,
+    Accepted, Aeration, Answer, Candidate, GridCandidate, Plant, Reactor, Readings, Refusal,
+    Settling, Sheet, TankFlow,
 };
 use settling::Thickened;
 
@@ -49,17 +51,21 @@ pub fn on_grid(tank: TankFlow, candidate: Candidate) -> bool
         && rounding::within(rules::LEAST_TIME, rules::MOST_TIME, candidate.thickening)
 }
 
+// The settling tank of a candidate on the grid.
+fn settling_of(accepted: &Accepted, candidate: GridCandidate) -> Settling
+    ensures { result ≡ settling_of accepted.now.plant candidate.return_ratio candidate.thickening }
+{
+    Thickened::new(accepted, candidate.thickening()).tank(candidate.return_ratio())
+}
+
 // The reactor and the settling tank of a candidate on the grid, and the verdict on its rules.
-pub fn stages_of(basis: &Basis, candidate: Candidate) -> Stages
-    requires { OnGrid candidate }
+pub fn stages_of(basis: &Basis, candidate: GridCandidate) -> Stages
     ensures { StagesOf basis.now.data.plant basis.now.data.concentrations candidate result }
 {
-    let plant = &basis.data.plant;
-    let reactor = basis.reactor(candidate.fraction);
-    let thickened = Thickened::new(plant.sludge_volume_index, candidate.thickening);
-    let settling = thickened.tank(&basis.data, candidate.return_ratio);
-    let fraction = basis.fraction_verdict(reactor);
-    let tank = settling::tank_verdict(plant, settling);
+    let reactor = basis.reactor(candidate.fraction());
+    let settling = settling_of(&basis.data, candidate);
+    let fraction = basis.fraction_verdict(&reactor);
+    let tank = settling::tank_verdict(&basis.data.plant, &settling);
     Stages {
         reactor,
         settling,
@@ -70,51 +76,44 @@ pub fn stages_of(basis: &Basis, candidate: Candidate) -> Stages
 // The sheet that a candidate's stages make.
 fn sheet_from(
     plant: &Plant,
-    candidate: Candidate,
-    reactor: Reactor,
-    settling: Settling,
+    candidate: GridCandidate,
+    reactor: &Reactor,
+    settling: &Settling,
     aeration: Aeration,
 ) -> Sheet
-    requires { ReactorBounds reactor × SettlingBounds settling }
-    ensures { result ≡ sheet_from plant.now candidate reactor settling aeration }
+    ensures { result ≡ sheet_from plant.now candidate reactor.now settling.now aeration }
 {
     let solids = reactor::reactor_solids(plant.process, settling.solids);
     let volume = reactor::reactor_volume(reactor.mass, solids);
+    let settling_volume = settling.volume.get();
     Sheet {
-        fraction: u64::from(candidate.fraction),
-        return_ratio: u64::from(candidate.return_ratio),
-        thickening: u64::from(candidate.thickening),
-        age: reactor.age,
-        sludge: reactor.sludge,
-        mass: reactor.mass,
-        solids: settling.solids,
+        fraction: candidate.fraction().get(),
+        return_ratio: candidate.return_ratio().get(),
+        thickening: candidate.thickening().get(),
+        age: reactor.age.get(),
+        sludge: reactor.sludge.get(),
+        mass: reactor.mass.get(),
+        solids: settling.solids.get(),
         reactor: volume,
-        surface: settling.surface,
-        depth: settling.depth,
-        settling: settling.volume,
-        total: volume + settling.volume,
+        surface: settling.surface.get(),
+        depth: settling.depth.get(),
+        settling: settling_volume,
+        total: volume + settling_volume,
         recirculation: aeration.recirculation,
         oxygen: aeration.oxygen,
         transfer: aeration.transfer,
     }
 }
 
-// A candidate on the grid whose fraction keeps its rules, from the bottom sludge of its thickening time: the tank's refusal,
-// else its sheet.
-pub fn judge_tank(
-    accepted: &Accepted,
-    candidate: Candidate,
-    reactor: Reactor,
-    thickened: Thickened,
-) -> Answer
-    requires { OnGrid candidate × ReactorAt accepted.now.plant accepted.now.concentrations candidate reactor
-        × (thickened.time ≡ candidate.thickening) × (thickened.index ≡ accepted.now.plant.sludge_volume_index) }
+// A candidate on the grid whose fraction keeps its rules: the tank's refusal, else its sheet.
+pub fn judge_tank(accepted: &Accepted, candidate: GridCandidate, reactor: &Reactor) -> Answer
+    requires { reactor.now ≡ reactor_of accepted.now.plant accepted.now.concentrations candidate.fraction }
     ensures { result ≡ judge_tank accepted.now.plant accepted.now.concentrations candidate }
 {
-    let settling = thickened.tank(accepted, candidate.return_ratio);
-    settling::tank_verdict(&accepted.plant, settling)?;
+    let settling = settling_of(accepted, candidate);
+    settling::tank_verdict(&accepted.plant, &settling)?;
     let aeration = aeration::aeration(accepted, reactor);
-    Ok(sheet_from(&accepted.plant, candidate, reactor, settling, aeration))
+    Ok(sheet_from(&accepted.plant, candidate, reactor, &settling, aeration))
 }
 
 // A candidate of accepted data: the refusal of the first rule that it breaks, else its sheet. The tank is
@@ -124,11 +123,11 @@ pub fn judge(accepted: &Accepted, candidate: Candidate) -> Answer
 {
     let on_grid = on_grid(accepted.plant.tank, candidate);
     verdicts::rule(on_grid, Refusal::OffGrid)?;
+    let candidate = GridCandidate::new(candidate);
     let basis = Basis::new(*accepted);
-    let reactor = basis.reactor(candidate.fraction);
-    basis.fraction_verdict(reactor)?;
-    let thickened = Thickened::new(accepted.plant.sludge_volume_index, candidate.thickening);
-    judge_tank(accepted, candidate, reactor, thickened)
+    let reactor = basis.reactor(candidate.fraction());
+    basis.fraction_verdict(&reactor)?;
+    judge_tank(accepted, candidate, &reactor)
 }
 
 // What examining answers for any plant data, lab readings and candidate; a sheet keeps the two columns.

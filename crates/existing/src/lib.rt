@@ -3,15 +3,17 @@
 // tried by itself, since one that is won says nothing of the next.
 #![tactic(auto)]
 
-ghost use Rattle.std.specs.Prelude.{◌≡◌, ◌≤◌, T, IfOk, Ok};
-ghost use Rattle.rules.specs.Limits.{most_mass};
-ghost use Rattle.rules.specs.Ranges.{Index, GridRatio, GridTime};
+ghost use Rattle.std.specs.Prelude.{◌≡◌, T, IfOk, Ok};
+ghost use Rattle.rules.specs.Ranges.{Index};
 ghost use Rattle.rules.specs.Existing.{span_valid, sizes_positive, operated_on_grid, accept_built, HeldOrLost, BuiltAnswered};
 ghost use Rattle.accepting.specs.Acceptance.{acceptance_of};
 ghost use Rattle.existing.specs.Tanks.{sizes_fit, tank_wins, Decides, TankWon, WonAt, SpanTried};
 
 use reactor::Basis;
-use rules::{Accepted, Existing, IndexSpan, Plant, Readings, Refusal};
+use rules::{
+    Accepted, Existing, GridFraction, GridRatio, GridTime, IndexSpan, Plant, Readings, Refusal,
+    SludgeMass,
+};
 use settling::Thickened;
 
 // 20 is not due: the span is not empty and lies within 50..180.
@@ -42,7 +44,7 @@ fn operated_on_grid(existing: Existing) -> bool
     ) && rounding::within(rules::LEAST_TIME, rules::MOST_TIME, existing.thickening)
 }
 
-// 20; then 21; then what the data get; then 6.
+// 20; then 21; then what the data get; then 6. Tanks and span are two things of document 02, and come apart.
 fn accept_built(
     plant: Plant,
     readings: Readings,
@@ -68,64 +70,64 @@ fn sizes_fit(existing: Existing, reactor: u64, surface: u64, depth: u64) -> bool
         && depth <= u64::from(existing.depth)
 }
 
-// The settling tank of a return ratio keeps its rules, and it and the reactor are built.
-fn tank_wins(
-    accepted: &Accepted,
+// Existing tanks with the sludge mass that their reactor holds, for accepted data.
+#[derive(Clone, Copy)]
+struct Tanks {
+    accepted: Accepted,
     existing: Existing,
-    mass: u64,
-    ratio: u32,
-    thickened: Thickened,
-) -> bool
-    requires { (mass ≤ most_mass) × GridRatio ratio × (thickened.index ≡ accepted.now.plant.sludge_volume_index) × (thickened.time ≡ existing.thickening) }
-    ensures { result ≡ tank_wins accepted.now.plant existing mass ratio }
-{
-    let settling = thickened.tank(accepted, ratio);
-    if settling::tank_verdict(&accepted.plant, settling).is_err() {
-        return false;
-    }
-    let solids = reactor::reactor_solids(accepted.plant.process, settling.solids);
-    let volume = reactor::reactor_volume(mass, solids);
-    sizes_fit(existing, volume, settling.surface, settling.depth)
+    mass: SludgeMass,
+    ghost operated: { T (operated_on_grid existing) },
 }
 
-// Whether the plant's own index can be won: each return ratio of the grid is tried, until one wins. A `for`, since what is asked of a
-// ratio, that it is on the grid, is known in the loop alone.
-fn won(accepted: &Accepted, existing: Existing, mass: u64) -> bool
-    requires { GridTime existing.thickening × (mass ≤ most_mass) }
-    ensures { Decides (TankWon accepted.now.plant existing mass) result }
-{
-    let last = examining::largest_return_ratio(accepted.plant.tank);
-    let thickened = Thickened::new(accepted.plant.sludge_volume_index, existing.thickening);
-    'ratio: for ratio in rules::LEAST_RATIO..=last {
-        if tank_wins(accepted, existing, mass, ratio, thickened) {
-            return true;
+impl Tanks {
+    // The settling tank of a return ratio keeps its rules, and it and the reactor are built.
+    fn wins(&self, thickened: &Thickened, ratio: GridRatio) -> bool
+        requires { (thickened.now.accepted.now ≡ self.now.accepted) × (thickened.now.time ≡ self.now.existing.thickening) }
+        ensures { result ≡ tank_wins self.now.accepted.plant self.now.existing self.now.mass ratio }
+    {
+        let plant = &self.accepted.plant;
+        let settling = thickened.tank(ratio);
+        if settling::tank_verdict(plant, &settling).is_err() {
+            return false;
         }
+        let solids = reactor::reactor_solids(plant.process, settling.solids);
+        let volume = reactor::reactor_volume(self.mass, solids);
+        let surface = settling.surface.get();
+        let depth = settling.depth.get();
+        sizes_fit(self.existing, volume, surface, depth)
     }
-    false
-}
 
-// Whether an index can be won, at the plant with that index.
-#[tactic(auto, unfolding(rules::specs::OtherSteps::with_index))]
-fn won_at(accepted: &Accepted, existing: Existing, mass: u64, index: u32) -> bool
-    requires { GridTime existing.thickening × (mass ≤ most_mass) × Index index }
-    ensures { Decides (WonAt accepted.now.plant existing mass index) result }
-{
-    let mut with_index = *accepted;
-    with_index.plant.sludge_volume_index = index;
-    won(&with_index, existing, mass)
-}
-
-// The first index of the span that is lost, if any. A `for` for the same reason.
-fn first_lost(accepted: &Accepted, existing: Existing, mass: u64, span: IndexSpan) -> Option<u32>
-    requires { GridTime existing.thickening × (mass ≤ most_mass) × T (span_valid span) }
-    ensures { SpanTried accepted.now.plant existing mass span result }
-{
-    'index: for index in span.least..=span.most {
-        if !won_at(accepted, existing, mass, index) {
-            return Some(index);
-        }
+    // Whether the plant's own index can be won: each return ratio of the grid is tried, until one wins.
+    fn won(&self) -> bool
+        ensures { Decides (TankWon self.now.accepted.plant self.now.existing self.now.mass) result }
+    {
+        let last = examining::largest_return_ratio(self.accepted.plant.tank);
+        let time = GridTime::new(u64::from(self.existing.thickening));
+        let thickened = Thickened::new(&self.accepted, time);
+        (rules::LEAST_RATIO..last + 1).any(|ratio| self.wins(
+            &thickened,
+            GridRatio::new(u64::from(ratio)),
+        ))
     }
-    None
+
+    // Whether an index can be won, at the plant with that index.
+    #[tactic(auto, unfolding(rules::specs::OtherSteps::with_index))]
+    fn won_at(&self, index: u32) -> bool
+        requires { Index index }
+        ensures { Decides (WonAt self.now.accepted.plant self.now.existing self.now.mass index) result }
+    {
+        let mut tanks = *self;
+        tanks.accepted.plant.sludge_volume_index = index;
+        tanks.won()
+    }
+
+    // The first index of the span that is lost, if any.
+    fn first_lost(&self, span: IndexSpan) -> Option<u32>
+        requires { T (span_valid span) }
+        ensures { SpanTried self.now.accepted.plant self.now.existing self.now.mass span result }
+    {
+        (span.least..span.most + 1).find(|&index| !self.won_at(index))
+    }
 }
 
 // Existing tanks of accepted data. Where the fraction breaks a rule of its own, every index is lost, the least of the span first.
@@ -134,11 +136,16 @@ fn held_or_lost(accepted: &Accepted, existing: Existing, span: IndexSpan) -> Opt
     ensures { HeldOrLost accepted.now.plant accepted.now.concentrations existing span (Ok result) }
 {
     let basis = Basis::new(*accepted);
-    let reactor = basis.reactor(existing.fraction);
-    if basis.fraction_verdict(reactor).is_err() {
+    let reactor = basis.reactor(GridFraction::new(u64::from(existing.fraction)));
+    if basis.fraction_verdict(&reactor).is_err() {
         return Some(span.least);
     }
-    first_lost(accepted, existing, reactor.mass, span)
+    let tanks = Tanks {
+        accepted: *accepted,
+        existing,
+        mass: reactor.mass,
+    };
+    tanks.first_lost(span)
 }
 
 // What existing tanks are answered with, for any plant data, lab readings, tanks and span: the smallest index that is lost, if any.

@@ -3,32 +3,30 @@
 #![tactic(auto)]
 
 ghost use Rattle.std.specs.Prelude.{◌≡◌};
-ghost use Rattle.rules.specs.Ranges.{OnGrid};
 ghost use Rattle.rules.specs.Explaining.{candidate_explained, explain_candidate, explain};
 
 use reactor::Basis;
-use rules::{Accepted, Candidate, Explained, Plant, Readings, Refusal};
+use rules::{Accepted, Candidate, Explained, GridCandidate, Plant, Readings, Refusal};
 
 // The explaining figures of a candidate on the grid.
-fn explained(accepted: &Accepted, candidate: Candidate) -> Explained
-    requires { OnGrid candidate }
+fn explained(accepted: &Accepted, candidate: GridCandidate) -> Explained
     ensures { result ≡ candidate_explained accepted.now.plant accepted.now.concentrations candidate }
 {
     let basis = Basis::new(*accepted);
     let stages = examining::stages_of(&basis, candidate);
-    let reactor = stages.reactor;
-    let settling = stages.settling;
-    let removed_by_bod = reactor.removes / 1000;
-    let removed_by_dose = reactor.removed_by_dose;
+    let reactor = &stages.reactor;
+    let settling = &stages.settling;
+    let removed_by_bod = reactor.removes.get() / 1000;
+    let removed_by_dose = reactor.removed_by_dose.get();
     Explained {
-        denitrified: reactor.denitrified,
+        denitrified: reactor.denitrified.get(),
         removed_by_bod,
         removed_by_dose,
         removable: removed_by_bod + removed_by_dose,
-        solids: settling.solids,
-        sludge_volume: settling.sludge_volume,
-        surface: settling.surface,
-        depth: settling.depth,
+        solids: settling.solids.get(),
+        sludge_volume: settling.sludge_volume.get(),
+        surface: settling.surface.get(),
+        depth: settling.depth.get(),
         verdict: stages.verdict,
         terms: basis.terms_explained(reactor),
     }
@@ -42,10 +40,10 @@ fn explain_candidate(accepted: &Accepted, candidate: Candidate) -> Result<Explai
         examining::on_grid(accepted.plant.tank, candidate),
         Refusal::OffGrid,
     )?;
-    Ok(explained(accepted, candidate))
+    Ok(explained(accepted, GridCandidate::new(candidate)))
 }
 
-// What explaining answers for any plant data, lab readings and candidate.
+// What explaining answers for any plant data, lab readings and candidate: like examining accepted first, and then one call.
 pub fn explain(plant: Plant, readings: Readings, candidate: Candidate) -> Result<Explained, Refusal>
     ensures { result ≡ explain plant readings candidate }
 {

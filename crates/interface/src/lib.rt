@@ -65,7 +65,7 @@ pub fn line(request: &[u8], page: &mut [u8]) -> Result<Reply, Fault>
     Ok(putting::put(answer, page))
 }
 
-// The figures of an explanation in their order.
+// The figures of an explanation in their order, which fields do not have.
 fn explained_figures(explained: &Explained) -> [u64; EXPLAINED_FIGURES]
     ensures { result ≡ explained_figures explained.now }
 {

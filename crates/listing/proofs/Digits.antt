@@ -1,13 +1,14 @@
--- A numeral is the last digits of its number, as many as it has: so they are written, from the last to the first. Assumes nothing.
+-- A numeral is the last digits of its number, as many as it has: so they are written, from the last to the first. How many it has,
+-- the powers of ten around the number say. Assumes nothing.
 use mathlib.Core.Path.{◌≡◌, refl}
 use mathlib.Core.List.{List, [], ◌∷◌, ◌++◌}
-use Prim.Native.Nat.{ℕ, zero, suc, ◌+◌, ◌-◌, ◌/◌, ◌%◌, ◌<◌}
+use Prim.Native.Nat.{ℕ, zero, suc, ◌+◌, ◌-◌, ◌*◌, ◌/◌, ◌%◌, ◌^◌, ◌≤◌, ◌<◌}
+use native.Mathlib.Nat.{pow-suc}
 use native.Mathlib.Omega.{arith}
 use lib.ListN.{length, set, length-append}
 use lib.Seq.{sets}
 use Rattle.rules.specs.Listing.{numeral}
-use Rattle.rules.proofs.Numeral.{along_numeral}
-pub use Rattle.rules.proofs.Numeral.{length_one, length_more, numeral_length}
+use Rattle.rules.proofs.Numeral.{along_numeral, length_one, length_more}
 use Rattle.listing.proofs.Page.{sets_last}
 
 -- the last k digits of n, zeros in front where it has fewer
@@ -36,7 +37,12 @@ digit_written p at place n h =
     let f : place - at ≡ suc (place - 1 - at) = omega arith in
     rw f (sets_last (last_digits (place - 1 - at) (n / 10)) p at (place - 1) (48 + n % 10) (omega (arith, length-last_digits (place - 1 - at) (n / 10))))
 
--- for the loops over a number's digits: the one that counts them, and the one that writes them
-pub ruleset counting = (length_one, length_more, numeral_length)
+-- from 10 to the power k on, and below ten times that, a numeral has k + 1 digits
+pub length_by_power : (k n : ℕ) → 10 ^ k ≤ n → n < 10 * 10 ^ k → length (numeral n) ≡ k + 1
+length_by_power zero n least most = length_one n (omega arith)
+length_by_power (suc k) n least most =
+    let p : 10 ^ suc k ≡ 10 ^ k * 10 = pow-suc 10 k in
+    omega (arith, p, length_more n (omega (arith, p)), length_by_power k (n / 10) (omega (arith, p)) (omega (arith, p)))
 
+-- for the loop that writes a number's digits
 pub ruleset writing = (digit_written, numeral_last_digits)

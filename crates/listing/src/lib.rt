@@ -1,5 +1,6 @@
 // The listing of an answer on a page that the caller lends. A listing is a form filled in: a text with a mark in each place
-// where a figure goes.
+// where a figure goes. Figures are written by hand: of `write!` the library says what comes out for a `String` alone, and the calls for
+// C have no heap.
 #![tactic(auto)]
 
 ghost use Rattle.std.specs.Prelude.{◌≡◌, ◌+◌, ◌≤◌, length};
@@ -18,7 +19,7 @@ pub fn refusal_number(refusal: Refusal) -> u64
     refusal as u64
 }
 
-// The number of an answer, whatever it carries: 0, or that of its refusal.
+// The number of an answer, whatever it carries: 0, or that of its refusal. A number, since C and a listing are given one.
 #[tactic(auto, using(rules::proofs::RuleOrder::refusal_number_most), unfolding(rules::specs::Answers::answer_number))]
 pub fn answer_number<T: Copy>(answer: Result<T, Refusal>) -> u64
     ensures value { result ≡ answer_number answer }
@@ -30,7 +31,7 @@ pub fn answer_number<T: Copy>(answer: Result<T, Refusal>) -> u64
     }
 }
 
-// The fifteen figures of a sheet, in the listing's order.
+// The fifteen figures of a sheet, in the listing's order: fields have none.
 #[tactic(auto, unfolding(rules::specs::Answers::sheet_figures))]
 pub fn figures(sheet: Sheet) -> [u64; 15]
     ensures { result ≡ sheet_figures sheet }
@@ -54,18 +55,15 @@ pub fn figures(sheet: Sheet) -> [u64; 15]
     ]
 }
 
-// The number of decimal digits of n. What is counted down is the number itself, by tens: the library has no count of digits.
-#[tactic(auto, using(crate::proofs::Digits::counting))]
+// The number of decimal digits of n.
+#[tactic(auto, using(crate::proofs::Digits::length_by_power, rules::proofs::Numeral::length_one))]
 fn digit_count(n: u64) -> usize
     ensures { (result ≡ length (numeral n)) × (result ≤ 20) }
 {
-    let mut rest = n;
-    let mut count = 1;
-    'tenth: while 9 < rest {
-        rest /= 10;
-        count += 1;
+    match n.checked_ilog10() {
+        Some(power) => power as usize + 1,
+        None => 1,
     }
-    count
 }
 
 // Writes n in decimal at an index of the page, from the last digit to the first, and gives the index after it.
@@ -87,7 +85,7 @@ fn put_number(page: &mut [u8], at: usize, n: u64) -> usize
 const MARK: u8 = b'#';
 
 // The form of a sheet, and of a refusal.
-const SHEET_FORM: [u8; 147] = *b"fraction #\n\
+const SHEET_FORM: &[u8] = b"fraction #\n\
     return #\n\
     thickening #\n\
     age #\n\
@@ -103,7 +101,7 @@ const SHEET_FORM: [u8; 147] = *b"fraction #\n\
     oxygen #\n\
     transfer #\n";
 
-const REFUSED_FORM: [u8; 10] = *b"refused #\n";
+const REFUSED_FORM: &[u8] = b"refused #\n";
 
 // A listing before it is written: a form, and the figures that go into it.
 #[derive(Clone, Copy)]
@@ -120,14 +118,14 @@ impl Listing {
     {
         match answer {
             Ok(sheet) => Listing {
-                form: &SHEET_FORM,
+                form: SHEET_FORM,
                 figures: figures(sheet),
             },
             Err(refusal) => {
                 let mut figures = [0; 15];
                 figures[0] = refusal_number(refusal);
                 Listing {
-                    form: &REFUSED_FORM,
+                    form: REFUSED_FORM,
                     figures,
                 }
             }

@@ -54,23 +54,14 @@ module _ (most : ℕ) (x : Float) (small : most ≤ most_flow) where
   pub value_none : (r : MeasurementError) → Err r ≡ measurement 1 x → Err Refusal.DayValue ≡ day_value most x
   value_none r e = ap (value_by most) e ∙ value_by_lem most x small
 
--- what a value or a load says that is given, or refused
-module _ (most : ℕ) (x : Float) where
-  pub value_given : (n : ℕ) → Ok n ≡ day_value most x → (value_kept most x ≡ true) × (n ≡ thousandths 1 x)
-  unfolding day_value
-  value_given n = go (value_kept most x)
-    where
-      go : (b : Bool) → Ok n ≡ cond b (Ok (thousandths 1 x)) (Err Refusal.DayValue) → (b ≡ true) × (n ≡ thousandths 1 x)
-      go true e = (refl, cc)
-      go false e = cc
+-- what a result by a test says of the test, where it is a value and where it is a refusal
+given : {A : Type 0} (b : Bool) (v x : A) (n : Refusal) → Ok x ≡ cond b (Ok v) (Err n) → (b ≡ true) × (x ≡ v)
+given true v x n e = (refl, cc)
+given false v x n e = cc
 
-  pub value_refused : (n : Refusal) → Err n ≡ day_value most x → (value_kept most x ≡ false) × (n ≡ Refusal.DayValue)
-  unfolding day_value
-  value_refused n = go (value_kept most x)
-    where
-      go : (b : Bool) → Err n ≡ cond b (Ok (thousandths 1 x)) (Err Refusal.DayValue) → (b ≡ false) × (n ≡ Refusal.DayValue)
-      go true e = cc
-      go false e = (refl, cc)
+refused : {A : Type 0} (b : Bool) (v : A) (m n : Refusal) → ◌≡◌ {A = Result A Refusal} (Err n) (cond b (Ok v) (Err m)) → (b ≡ false) × (n ≡ m)
+refused true v m n e = cc
+refused false v m n e = (refl, cc)
 
 -- a value that is kept keeps its limit, and so does a day's load
 value_most : (most : ℕ) (x : Float) → T (value_kept most x) → thousandths 1 x ≤ most
@@ -87,64 +78,39 @@ load_most x t =
     )
 
 module _ (x : Day) where
-  -- what a load tells of its day
-  load_given : (n : ℕ) → Ok n ≡ kept_load x → (day_kept x ≡ true) × (n ≡ day_load x)
-  unfolding kept_load
-  load_given n = go (day_kept x)
-    where
-      go : (b : Bool) → Ok n ≡ cond b (Ok (day_load x)) (Err Refusal.DayValue) → (b ≡ true) × (n ≡ day_load x)
-      go true e = (refl, cc)
-      go false e = cc
-
-  load_refused : (n : Refusal) → Err n ≡ kept_load x → (day_kept x ≡ false) × (n ≡ Refusal.DayValue)
-  unfolding kept_load
-  load_refused n = go (day_kept x)
-    where
-      go : (b : Bool) → Err n ≡ cond b (Ok (day_load x)) (Err Refusal.DayValue) → (b ≡ false) × (n ≡ Refusal.DayValue)
-      go true e = cc
-      go false e = (refl, cc)
-
   -- a step by the load of its day
   pub stepped_by : (w : Window) (n : ℕ) → Ok n ≡ kept_load x → Ok (moved w n) ≡ stepped w x
-  unfolding stepped
-  stepped_by w n e = let given = load_given n e in rw (given.0, given.1) refl
+  unfolding kept_load stepped
+  stepped_by w n e = let g = given (day_kept x) (day_load x) n _ e in rw (g.0, g.1) refl
 
   pub not_stepped : (w : Window) (n : Refusal) → Err n ≡ kept_load x → Err n ≡ stepped w x
-  unfolding stepped
-  not_stepped w n e = let refused = load_refused n e in rw (refused.0, refused.1) refl
+  unfolding kept_load stepped
+  not_stepped w n e = let r = refused (day_kept x) (day_load x) _ n e in rw (r.0, r.1) refl
 
   -- what a step tells of its day
   pub step_given : (w v : Window) → Ok v ≡ stepped w x → (day_kept x ≡ true) × (v ≡ moved w (day_load x))
   unfolding stepped
-  step_given w v = go (day_kept x)
-    where
-      go : (b : Bool) → Ok v ≡ cond b (Ok (moved w (day_load x))) (Err Refusal.DayValue) → (b ≡ true) × (v ≡ moved w (day_load x))
-      go true e = (refl, cc)
-      go false e = cc
+  step_given w v = given (day_kept x) _ v _
 
   pub step_refused : (w : Window) (n : Refusal) → Err n ≡ stepped w x → (day_kept x ≡ false) × (n ≡ Refusal.DayValue)
   unfolding stepped
-  step_refused w n = go (day_kept x)
-    where
-      go : (b : Bool) → Err n ≡ cond b (Ok (moved w (day_load x))) (Err Refusal.DayValue) → (b ≡ false) × (n ≡ Refusal.DayValue)
-      go true e = cc
-      go false e = (refl, cc)
+  step_refused w n = refused (day_kept x) (moved w (day_load x)) _ n
 
   -- a day by its flow and its BOD
   pub flow_refused : (n : Refusal) → Err n ≡ day_value most_flow x.flow → Err n ≡ kept_load x
-  unfolding kept_load day_kept
-  flow_refused n e = let f = value_refused most_flow x.flow n e in rw (f.0, f.1)
+  unfolding day_value kept_load day_kept
+  flow_refused n e = let f = refused (value_kept most_flow x.flow) (thousandths 1 x.flow) _ n e in rw (f.0, f.1)
 
   pub bod_refused : (flow : ℕ) (n : Refusal) → Ok flow ≡ day_value most_flow x.flow → Err n ≡ day_value most_bod x.bod → Err n ≡ kept_load x
-  unfolding kept_load day_kept
+  unfolding day_value kept_load day_kept
   bod_refused flow n e h =
-      let f = value_given most_flow x.flow flow e in
-      let b = value_refused most_bod x.bod n h in
+      let f = given (value_kept most_flow x.flow) (thousandths 1 x.flow) flow _ e in
+      let b = refused (value_kept most_bod x.bod) (thousandths 1 x.bod) _ n h in
       rw (f.0, b.0, b.1)
 
   pub both_given : (flow bod : ℕ) → Ok flow ≡ day_value most_flow x.flow → Ok bod ≡ day_value most_bod x.bod → Ok (flow * bod) ≡ kept_load x
-  unfolding kept_load day_kept day_load
+  unfolding day_value kept_load day_kept day_load
   both_given flow bod e h =
-      let f = value_given most_flow x.flow flow e in
-      let b = value_given most_bod x.bod bod h in
+      let f = given (value_kept most_flow x.flow) (thousandths 1 x.flow) flow _ e in
+      let b = given (value_kept most_bod x.bod) (thousandths 1 x.bod) bod _ h in
       rw (f.0, b.0, f.1, b.1)

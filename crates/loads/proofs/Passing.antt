@@ -2,7 +2,7 @@
 -- answer. Assumes nothing.
 use mathlib.Core.Logic.{◌⊎◌, inl, inr}
 use mathlib.Core.Path.{◌≡◌, refl, sym, ap, ◌∙◌}
-use mathlib.Core.Bool.{Bool, true, false, cond}
+use mathlib.Core.Bool.{false}
 use mathlib.Core.List.{List}
 use Prim.Native.Nat.{ℕ, ◌+◌, ◌-◌, ◌%◌, ◌≤◌, ◌<◌, zero-le}
 use native.Mathlib.Nat.{eq-or-lt_of_le}
@@ -14,6 +14,7 @@ use lib.Dec.{leb, ltb}
 use lib.Ieee.{Float, binary32, of_bits}
 use lib.ListN.{length, get_or, set, length-set, replicate, length-replicate, get_or-replicate}
 use lib.Seq.{get_or-set_same, get_or-set_other}
+use Rattle.std.proofs.lemmas.Bool.{cond_both}
 use Rattle.std.specs.Prelude.{Ok, Err}
 use Rattle.words.specs.Bytes.{word}
 use Rattle.rules.specs.Sums.{sum_from}
@@ -70,13 +71,11 @@ module _ (log : List ℕ) where
     -- the loads of kept days are in their range, and one more can come in
     in_range : (j : ℕ) → n ≤ j → j < n + 14 → load j ≤ most_load
     unfolding padded
-    in_range j l m = go (ltb j 14) refl
-      where
-        go : (b : Bool) → ltb j 14 ≡ b → cond b 0 (load_on log (j - 13)) ≤ most_load
-        go true e = zero-le
-        go false e =
-            let late : 14 ≤ j = ltb-false j 14 e in
-            load_most (day_of log (j - 13)) ((days_kept_lem log n).0 (passes (days_kept log n) p.kept) (j - 13) (omega arith) (omega arith))
+    in_range j l m =
+        cond_both (ltb j 14) 0 (load_on log (j - 13)) (λ s. s ≤ most_load) (λ e. zero-le)
+        (λ e.
+        let late : 14 ≤ j = ltb-false j 14 e in
+        load_most (day_of log (j - 13)) ((days_kept_lem log n).0 (passes (days_kept log n) p.kept) (j - 13) (omega arith) (omega arith)))
 
     pub room : n < 3_660 → Room w
     room few =
@@ -112,23 +111,21 @@ module _ (log : List ℕ) where
 
     next_highest : (s : ℕ) → s ≡ sum_from (n + 1) 14 load → highest_after w.highest s (w.days + 1) ≡ highest_of (window_load log) (n + 1 - 13)
     unfolding highest_after window_load
-    next_highest s e = rw (p.days, p.highest, e) (go (leb 14 (n + 1)) refl)
-      where
-        go :
-            (b : Bool) → leb 14 (n + 1) ≡ b
-            → cond b (higher (highest_of (window_load log) (n - 13)) (sum_from (n + 1) 14 load) (n + 1 - 13)) (highest_of (window_load log) (n - 13))
-            ≡ highest_of (window_load log) (n + 1 - 13)
-        go true q =
-            let long : 13 ≤ n = omega (arith, leb-true 14 (n + 1) q) in
-            let day : n + 1 - 13 ≡ n - 13 + 1 = omega arith in
-            let last : n + 1 ≡ n - 13 + 1 + 13 = omega arith in
-            let sum : sum_from (n + 1) 14 load ≡ window_load log (n - 13 + 1) =
-            ap (λ (j : ℕ). sum_from j 14 load) last ∙ padded_window (load_on log) (n - 13 + 1) 14 (omega arith) in
-            rw (day, sum) (sym (highest_step (window_load log) (n - 13)))
-        go false q =
-            let early : n + 1 < 14 = leb-false 14 (n + 1) q in
-            let none : n - 13 ≡ n + 1 - 13 = omega arith in
-            ap (highest_of (window_load log)) none
+    next_highest s e =
+        rw (p.days, p.highest, e)
+        (cond_both (leb 14 (n + 1)) (higher (highest_of (window_load log) (n - 13)) (sum_from (n + 1) 14 load) (n + 1 - 13)) (highest_of (window_load log) (n - 13))
+        (λ h. h ≡ highest_of (window_load log) (n + 1 - 13))
+        (λ q.
+        let long : 13 ≤ n = omega (arith, leb-true 14 (n + 1) q) in
+        let day : n + 1 - 13 ≡ n - 13 + 1 = omega arith in
+        let last : n + 1 ≡ n - 13 + 1 + 13 = omega arith in
+        let sum : sum_from (n + 1) 14 load ≡ window_load log (n - 13 + 1) =
+        ap (λ (j : ℕ). sum_from j 14 load) last ∙ padded_window (load_on log) (n - 13 + 1) 14 (omega arith) in
+        rw (day, sum) (sym (highest_step (window_load log) (n - 13))))
+        (λ q.
+        let early : n + 1 < 14 = leb-false 14 (n + 1) q in
+        let none : n - 13 ≡ n + 1 - 13 = omega arith in
+        ap (highest_of (window_load log)) none))
 
     -- one day more is passed, which is kept
     pub one_more_passed : (v : Window) → Ok v ≡ stepped w (day_of log (n + 1)) → Passed log (n + 1) v

@@ -16,7 +16,7 @@ const MOST_BOD: u64 = 2_000_000;
 // The last 14 days of a pass over the log, and what it has found.
 #[derive(Clone, Copy)]
 struct Window {
-    // the days' loads: day d's at (d - 1) % 14, and 0 where there was no day yet
+    // the days' loads: day d's at (d - 1) % 14, so that a day costs one step, and 0 where there was no day yet
     loads: [u64; 14],
     // their sum
     sum: u64,
@@ -88,7 +88,8 @@ fn highest_after(best: TwoWeekLoad, sum: u64, days: u64) -> TwoWeekLoad
 }
 
 // All days of a whole log, from the first to the last: its answer, 13 at the first day that is refused. Document 01 names the form: a
-// `Day` is built from the two arrays at its number and handed to the window's step.
+// `Day` is built from the two arrays at its number and handed to the window's step. An index, since a day's second value stands as many
+// words on as the log has days.
 fn pass(log: &[u8], count: usize) -> Result<TwoWeekLoad, Refusal>
     requires { Whole log.now × (count ≡ day_count log.now) }
     ensures { result ≡ two_week_load log.now }

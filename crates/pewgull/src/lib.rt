@@ -1,6 +1,6 @@
 // The calls that a host makes: each answers any arguments, and its contract equates its whole outcome with document 01;
 // once more, as `numbered`, it says what the number, the sheet, the figures and the count are. That clause and the columns are
-// what a call here adds to the function that it hands on to.
+// what a call here adds to the function that it hands on to. Plant and readings come apart, as document 01 has them.
 #![tactic(auto)]
 
 ghost use Rattle.std.specs.Prelude.{◌≡◌};

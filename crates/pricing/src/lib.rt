@@ -10,7 +10,7 @@ ghost use Rattle.pricing.specs.Bands.{charge_end, AnswerVolumes};
 
 use rules::{Answer, Candidate, Plant, PricedSheet, Readings, Refusal, Sheet, Tariff};
 
-// The first limits rise strictly, from at least 1.
+// The first limits rise strictly, from at least 1. A loop: each is held to the one before it.
 fn limits_rise(tariff: &Tariff, n: usize) -> bool
     requires { n ≤ most_bands }
     ensures { result ≡ limits_rise tariff.now n }
@@ -47,14 +47,15 @@ fn tariff_valid(tariff: &Tariff) -> bool
         && tariff.surcharge <= rules::MOST_SURCHARGE
 }
 
-// Where a band's charge of a volume ends.
+// Where a band's charge of a volume ends. The bool is a test's answer.
 fn charge_end(last: bool, limit: u64, volume: u64) -> u64
     ensures { (result ≡ charge_end last limit volume) × (result ≤ volume) }
 {
     if last { volume } else { limit.min(volume) }
 }
 
-// A volume's price before surcharge, band by band. The index tells the last band, which has no limit.
+// A volume's price before surcharge, band by band. The index tells the last band, which has no limit: cut off by `split_last`, the price
+// band by band would be known for valid tariffs alone, and no more for those whose limits do not rise.
 fn volume_price(tariff: &Tariff, volume: u64) -> u64
     requires { T (tariff_valid tariff.now) × (volume ≤ most_reactor) }
     ensures { (result ≡ volume_price tariff.now volume) × (result ≤ volume * most_price) }
@@ -65,7 +66,7 @@ fn volume_price(tariff: &Tariff, volume: u64) -> u64
     'band: for k in 0..count {
         let band = tariff.bands[k];
         let end = charge_end(k + 1 == count, u64::from(band.limit), volume);
-        let metres = rounding::less(end, charged);
+        let metres = end.saturating_sub(charged);
         cost += metres * u64::from(band.price);
         charged += metres;
     }

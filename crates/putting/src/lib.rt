@@ -66,7 +66,8 @@ pub fn put_value(answer: Result<Option<u32>, Refusal>, page: &mut [u8]) -> Reply
     put_figures(answer, &[u64::from(value)], page)
 }
 
-// Gives a reply's number, and the number of its bytes in `written`. A malformed request has a number of its own, and no bytes.
+// Gives a reply's number, and the number of its bytes in `written`, as C takes them. A malformed request has a number of its own, and no
+// bytes.
 pub fn finish(reply: Result<Reply, Fault>, written: &mut u64) -> u32
     ensures { (page : List ℕ) → outcome result page written.new ≡ replied reply page }
 {

@@ -1,4 +1,5 @@
-// The calls for a price: a request's bytes in; out the answer's number, and on the page the figures of the sheet and its price.
+// The calls for a price: a request's bytes in; out the answer's number, and on the page the figures of the sheet and its price. The
+// layout is C's: each figure is read by the number of its word.
 #![tactic(auto)]
 
 ghost use Rattle.std.specs.Prelude.{◌≡◌, ◌+◌, ◌*◌, ◌≤◌, ◌<◌, length, Ok};

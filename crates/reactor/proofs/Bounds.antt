@@ -2,8 +2,10 @@
 use mathlib.Core.Path.{◌≡◌}
 use Prim.Native.Nat.{ℕ, ◌*◌, ◌≤◌}
 use native.Mathlib.Omega.{arith}
-use Rattle.rules.specs.Limits.{most_age, most_nitrogen, most_capacity, most_sludge}
-use Rattle.rules.specs.Ranges.{Between, GridFraction, PlantRanges, ConcentrationRanges, ReactorBounds}
+use Rattle.rules.specs.Limits.{most_capacity}
+use Rattle.rules.proofs.FigureBounds.{most_age, most_nitrogen, most_sludge}
+use Rattle.rules.specs.Ranges.{Between, GridFraction, PlantRanges, ConcentrationRanges}
+use Rattle.rules.proofs.FigureBounds.{ReactorBounds}
 use Rattle.rules.specs.AgeNitrate.{safety_factor, aerobic_age, sludge_age, corrected_age, nitrified, removes}
 use Rattle.rules.specs.ReactorSteps.{carbon_sludge_in, sludge_production, reactor_by, reactor_dosed, reactor_of}
 use Rattle.rules.specs.declared.Plant.{Plant}
@@ -47,7 +49,7 @@ reactor_bounds_lem p x f hp hx hf =
     u : ℕ
     u = corrected_age t p.design_temperature
 
-    u_most : u ≤ 28_400
+    u_most : u ≤ 42_600
     u_most = omega (arith, corrected_age_most t p.design_temperature (omega (arith, hp.design)), t_between.most)
 
     w_most : nitrified x.nitrogen x.bod ≤ most_nitrogen

@@ -1,4 +1,4 @@
--- The seasons of accepted data: the inflow and the design in their limits, each entry its term's, and what is asked of an entry asked of
+-- The seasons of accepted data: the inflow and the design the plant's, each entry its term's, and what is asked of an entry asked of
 -- the term. Assumes nothing.
 use mathlib.Core.Path.{◌≡◌, refl, sym, ap, subst, ◌∙◌}
 use mathlib.Core.Bool.{Bool, true, false}
@@ -8,76 +8,47 @@ use borrow.Author.Tests.{lt-leb, le-leb}
 use lib.Dec.{T}
 use lib.ListN.{length, get_or, take}
 use native.Mathlib.Omega.{arith}
-use Rattle.rules.specs.Limits.{most_temperature, most_terms}
-use Rattle.rules.specs.AgeNitrate.{safety_factor, decay, aerobic_age, corrected_age, nitrified}
-use Rattle.rules.specs.ReactorSteps.{sludge_per_phosphorus}
-use Rattle.rules.specs.Consent.{no_term, term_valid, terms_of, every}
+use Rattle.rules.specs.Limits.{most_terms}
+use Rattle.rules.specs.AgeNitrate.{safety_factor, decay, aerobic_age, corrected_age}
+use Rattle.rules.specs.Consent.{no_term, terms_of, every}
 use Rattle.rules.specs.TermSteps.{term_share, nitrifies, term_fraction, term_removes, term_denitrified, term_covered}
 use Rattle.rules.specs.Explanations.{no_term_explained}
 use Rattle.rules.specs.Explaining.{term_explained, term_at}
 use Rattle.rules.specs.Sums.{values_from}
-use Rattle.rules.specs.Ranges.{Between, TermTemperature, PlantRanges, ConcentrationRanges}
+use Rattle.rules.specs.Ranges.{PlantRanges, ConcentrationRanges}
 use Rattle.rules.specs.declared.Plant.{Plant}
 use Rattle.rules.specs.declared.Concentrations.{Concentrations}
 use Rattle.rules.specs.declared.Term.{Term}
 use Rattle.rules.specs.declared.Reactor.{Reactor}
+use Rattle.std.specs.Bool.{MatchBool}
+use Rattle.std.specs.List.{AllWithin, HoldsAt}
 use Rattle.std.proofs.lemmas.List.{get_or-take, length-take-le}
-use Rattle.rules.proofs.SumLaws.{values_length, values_at, list_of_values}
-use Rattle.rules.proofs.EveryTerm.{every_at, term_ranges, ValidTerms, valid_terms}
-use Rattle.reactor.specs.Seasons.{season_with, season_of, no_season, season_at, inflow_of, seasons_of, InflowBounds, SeasonBounds, TermSeasons, season_nitrifies, season_fraction, season_removes, season_covered, season_explained}
+use Rattle.rules.proofs.SumLaws.{values_length, values_at}
+use Rattle.rules.proofs.EveryTerm.{every_at, ValidTerms, valid_terms}
+use Rattle.reactor.specs.Seasons.{season_with, season_of, no_season, season_at, inflow_of, seasons_of, TermSeasons, season_nitrifies, season_fraction, season_removes, season_covered, season_explained}
 use Rattle.reactor.specs.declared.Season.{Season}
 use Rattle.reactor.specs.declared.Seasons.{Seasons}
-use Rattle.reactor.proofs.AgeLimits.{safety_factor_between, aerobic_age_between, aerobic_age_most, decay_most}
-use Rattle.reactor.proofs.NitrateLimits.{nitrified_most, denitrified_most, removed_by_dose_most}
-use Rattle.reactor.proofs.SludgeLimits.{sludge_per_phosphorus_most, phosphorus_sludge_most}
+use Rattle.reactor.proofs.AgeLimits.{safety_factor_between, aerobic_age_most}
 
-season_bounds : (factor n target : ℕ) → Between 145 180 factor → TermTemperature n → SeasonBounds (season_with factor n target)
-unfolding season_with
-season_bounds factor n target h b =
-    record { temperature = b.most; age = (aerobic_age_between factor n h b).most; decay = decay_most n b.least b.most }
-
-inflow_bounds : (p : Plant) (x : Concentrations) → PlantRanges p → ConcentrationRanges x → InflowBounds (inflow_of p x)
-unfolding inflow_of
-inflow_bounds p x hp hx =
-    let w = nitrified_most x.nitrogen x.bod hx.nitrogen.most in
-    record {
-      nitrified = w;
-      denitrified = denitrified_most (nitrified x.nitrogen x.bod) p.nitrate_target w;
-      by_dose = removed_by_dose_most p.dose hp.dose.most;
-      phosphorus = phosphorus_sludge_most p.flow (sludge_per_phosphorus p.precipitant) x.phosphorus p.phosphorus_target x.bod hp.flow.most (sludge_per_phosphorus_most p.precipitant) hx.phosphorus.most;
-    }
-
--- the inflow and the design are the plant's, in their limits
+-- the inflow and the design are the plant's
 pub record DesignIn (p : Plant) (x : Concentrations) (s : Seasons) : Type 0 where
   pub inflow : s.inflow ≡ inflow_of p x
-  pub inflow_bounds : InflowBounds s.inflow
   pub temperature : s.design.temperature ≡ p.design_temperature
   pub age : s.design.aerobic_age ≡ aerobic_age (safety_factor p.load) p.design_temperature
   pub decay : s.design.decay ≡ decay p.design_temperature
-  pub warm : s.design.temperature ≤ most_temperature
-  pub age_between : Between 1 10_000 s.design.aerobic_age
-  pub decay_most : s.design.decay ≤ 1_420_000
+  pub age_most : s.design.aerobic_age ≤ 10_000
 
 module _ (p : Plant) (x : Concentrations) (hp : PlantRanges p) where
   pub design_in : (s : Seasons) → ConcentrationRanges x → s ≡ seasons_of p x → DesignIn p x s
   unfolding seasons_of season_with
   design_in s hx e =
       subst (DesignIn p x) (sym e)
-      (let between = safety_factor_between p.load in
-      let term : TermTemperature p.design_temperature = record { least = omega (arith, hp.design); most = hp.design.most } in
-      record {
+      (record {
         inflow = refl;
-        inflow_bounds = inflow_bounds p x hp hx;
         temperature = refl;
         age = refl;
         decay = refl;
-        warm = hp.design.most;
-        age_between =
-            record {
-              least = (aerobic_age_between (safety_factor p.load) p.design_temperature between term).least;
-              most = aerobic_age_most (safety_factor p.load) p.design_temperature between.most hp.design;
-            };
-        decay_most = decay_most p.design_temperature term.least hp.design.most;
+        age_most = aerobic_age_most (safety_factor p.load) p.design_temperature (safety_factor_between p.load).most hp.design;
       })
 
   pub count_most : (s : Seasons) → s ≡ seasons_of p x → s.count ≤ most_terms
@@ -88,11 +59,6 @@ module _ (p : Plant) (x : Concentrations) (hp : PlantRanges p) where
   unfolding season_at
   own i below = rw (lt-leb p.consent.count i below)
 
-  bounded : (term : Term) → T (term_valid term) → SeasonBounds (season_of (safety_factor p.load) term)
-  unfolding season_of
-  bounded term valid =
-      season_bounds (safety_factor p.load) term.temperature term.nitrate_target (safety_factor_between p.load) (term_ranges term valid).temperature
-
   pub term_seasons :
       (s : Seasons)
       → s ≡ seasons_of p x
@@ -101,7 +67,7 @@ module _ (p : Plant) (x : Concentrations) (hp : PlantRanges p) where
   unfolding seasons_of
   term_seasons s e listed =
       subst (λ (t : Seasons). TermSeasons p (take t.count t.terms)) (sym e)
-      (record { long = long; listed = listed; each = each; bounds = bounds })
+      (record { long = long; listed = listed; each = each })
     where
       valid : ValidTerms p.consent
       valid = valid_terms p.consent hp.consent
@@ -123,11 +89,6 @@ module _ (p : Plant) (x : Concentrations) (hp : PlantRanges p) where
           get_or-take p.consent.count all i no_season below
           ∙ (values_at no_season 0 most_terms (season_at p) i few ∙ (ap (season_at p) same ∙ own i below))
 
-      bounds : (i : ℕ) → i < length (take p.consent.count all) → SeasonBounds (get_or (take p.consent.count all) i no_season)
-      bounds i b =
-          let below : i < p.consent.count = omega (arith, long) in
-          rw (each i b) (bounded (get_or p.consent.terms i no_term) (valid.each i below (omega (arith, listed))))
-
 -- a test that each of the first n terms passes, and one that entry i fails
 pub every_of : (test : Term → Bool) (l : List Term) (n : ℕ) → n ≤ length l → ((k : ℕ) → k < n → test (get_or l k no_term) ≡ true) → every test (take n l) ≡ true
 every_of test l zero most h = refl
@@ -147,17 +108,25 @@ module _
     (p : Plant) (l : List Season) (known : TermSeasons p l) (own : Season → Bool) (test : Term → Bool)
     (same : (s : Season) (term : Term) → s ≡ season_of (safety_factor p.load) term → own s ≡ test term)
   where
-    pub all_pass : (n : ℕ) → length l ≤ n → ((k : ℕ) → k < n → own (get_or l k no_season) ≡ true) → true ≡ every test (terms_of p.consent)
-    all_pass n most h =
+    all_pass : ((k : ℕ) → k < length l → own (get_or l k no_season) ≡ true) → true ≡ every test (terms_of p.consent)
+    all_pass h =
         sym (every_of test p.consent.terms p.consent.count known.listed
         (λ k b.
         let below : k < length l = omega (arith, known.long) in
-        sym (same (get_or l k no_season) (get_or p.consent.terms k no_term) (known.each k below)) ∙ h k (omega arith)))
+        sym (same (get_or l k no_season) (get_or p.consent.terms k no_term) (known.each k below)) ∙ h k below))
 
-    pub one_fails : (i : ℕ) → i < length l → own (get_or l i no_season) ≡ false → false ≡ every test (terms_of p.consent)
+    one_fails : (i : ℕ) → i < length l → own (get_or l i no_season) ≡ false → false ≡ every test (terms_of p.consent)
     one_fails i below fails =
         sym (every_fails test p.consent.terms p.consent.count i (omega (arith, known.long)) (omega (arith, known.long, known.listed))
         (sym (same (get_or l i no_season) (get_or p.consent.terms i no_term) (known.each i below)) ∙ fails))
+
+    -- what a search through the seasons ends in
+    pub tested :
+        (r : Bool)
+        → MatchBool r (AllWithin (λ s. own s ≡ true) l 0 (length l)) ((k : ℕ) × (k < length l) × HoldsAt (λ s. own s ≡ false) l k)
+        → r ≡ every test (terms_of p.consent)
+    tested true h = all_pass (λ k below. h k no_season (omega arith) below)
+    tested false h = one_fails h.0 h.1 (h.2 no_season)
 
 module _ (p : Plant) (x : Concentrations) (reactor : Reactor) (s : Season) (term : Term) (e : s ≡ season_of (safety_factor p.load) term) where
   -- 15
@@ -183,14 +152,3 @@ term_past p x reactor i past = rw (le-leb p.consent.count i past)
 pub term_before : (p : Plant) (x : Concentrations) (reactor : Reactor) (i : ℕ) → i < p.consent.count → term_at p x reactor i ≡ term_explained p x reactor (get_or p.consent.terms i no_term)
 unfolding term_at
 term_before p x reactor i before = rw (lt-leb p.consent.count i before)
-
--- a list of four entries
-pub list_of_four : {A : Type 0} (d : A) (g : ℕ → A) (l : List A) → length l ≡ 4 → get_or l 0 d ≡ g 0 → get_or l 1 d ≡ g 1 → get_or l 2 d ≡ g 2 → get_or l 3 d ≡ g 3 → l ≡ values_from 0 4 g
-list_of_four d g l long e0 e1 e2 e3 = list_of_values d 4 g l long each
-  where
-    each : (i : ℕ) → i < 4 → get_or l i d ≡ g i
-    each zero b = e0
-    each (suc zero) b = e1
-    each (suc (suc zero)) b = e2
-    each (suc (suc (suc zero))) b = e3
-    each (suc (suc (suc (suc i)))) b = absurd (omega (arith, b))

@@ -7,7 +7,8 @@ use native.Mathlib.Nat.{mul-le-mul, mul-le-mul_right}
 use native.Mathlib.Omega.{arith}
 use Rattle.rules.specs.Rounding.{down}
 use Rattle.rules.specs.Ranges.{Between, ConcentrationRanges}
-use Rattle.rules.specs.Limits.{most_capacity, most_removes}
+use Rattle.rules.specs.Limits.{most_capacity}
+use Rattle.rules.proofs.FigureBounds.{most_removes}
 use Rattle.rules.specs.AgeNitrate.{nitrified, denitrified, table_capacity, risen_capacity, capacity_uptake, uptake_capacity, capacity, removes_by_bod, removes_by_cod, removes, removed_by_dose}
 use Rattle.rules.specs.declared.Concentrations.{Concentrations}
 use Rattle.rules.specs.declared.Process.{Process}

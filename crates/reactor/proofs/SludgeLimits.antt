@@ -3,7 +3,8 @@ use Prim.Native.Nat.{ℕ, ◌+◌, ◌-◌, ◌*◌, ◌≤◌}
 use native.Mathlib.Nat.{mul-le-mul, sub-le}
 use native.Mathlib.Omega.{arith}
 use Rattle.rules.specs.ReactorSteps.{biomass_decay, carbon_sludge, carbon_sludge_in, sludge_per_phosphorus, phosphorus_sludge, sludge_production, sludge_mass}
-use Rattle.rules.specs.Limits.{most_dose, most_sludge, most_mass}
+use Rattle.rules.specs.Limits.{most_dose}
+use Rattle.rules.proofs.FigureBounds.{most_sludge, most_mass}
 use Rattle.rules.specs.Ranges.{PlantRanges, ConcentrationRanges}
 use Rattle.rules.specs.declared.Plant.{Plant}
 use Rattle.rules.specs.declared.Concentrations.{Concentrations}
@@ -53,7 +54,7 @@ pub carbon_sludge_in_most :
     → flow ≤ 200_000
     → ConcentrationRanges x
     → dose ≤ most_dose
-    → u ≤ 28_400
+    → u ≤ 42_600
     → carbon_sludge_in way flow x dose u ≤ 1_360_000_000
 unfolding carbon_sludge_in
 carbon_sludge_in_most Way.Bod flow x dose u hf hx hd hu =

@@ -3,7 +3,7 @@
 use Rattle.std.specs.Prelude.{ℕ, ◌-◌, ◌*◌, ◌≤◌, min, ◌≡◌, Bool, cond, leb, List, length, get_or, ◌<◌}
 use Rattle.rules.specs.Rounding.{down}
 use Rattle.rules.specs.Sums.{values_from}
-use Rattle.rules.specs.Limits.{most_temperature, most_term_age, most_nitrogen, most_removed_by_dose, most_terms}
+use Rattle.rules.specs.Limits.{most_terms}
 use Rattle.rules.specs.Consent.{no_term}
 use Rattle.rules.specs.AgeNitrate.{safety_factor, decay, aerobic_age, nitrified, denitrified, removed_by_bod, removed_by_dose, removable, covered}
 use Rattle.rules.specs.ReactorSteps.{sludge_per_phosphorus, phosphorus_sludge}
@@ -26,11 +26,11 @@ season_with factor temperature target =
 unfoldable pub season_of : ℕ → Term → Season
 season_of factor term = season_with factor term.temperature term.nitrate_target
 
--- past the count of a consent
+-- past the count of a consent: the least figures
 abbrev pub no_season : Season
-no_season = record { temperature = 0; target = 0; aerobic_age = 0; decay = 0 }
+no_season = record { temperature = 4; target = 0; aerobic_age = 1; decay = 0 }
 
--- entry i of a plant's consent; zeros past its count
+-- entry i of a plant's consent; the least figures past its count
 unfoldable pub season_at : Plant → ℕ → Season
 season_at p i = cond (leb p.consent.count i) no_season (season_of (safety_factor p.load) (get_or p.consent.terms i no_term))
 
@@ -54,29 +54,16 @@ seasons_of p x =
       terms = values_from 0 most_terms (season_at p);
     }
 
--- limits of a season's figures, which the arithmetic needs
-pub record SeasonBounds (s : Season) : Type 0 where
-  pub temperature : s.temperature ≤ most_temperature
-  pub age : s.aerobic_age ≤ most_term_age
-  pub decay : s.decay ≤ 1_420_000
-
-pub record InflowBounds (i : Inflow) : Type 0 where
-  pub nitrified : i.nitrified ≤ most_nitrogen
-  pub denitrified : i.denitrified ≤ most_nitrogen
-  pub by_dose : i.removed_by_dose ≤ most_removed_by_dose
-  pub phosphorus : i.phosphorus_sludge ≤ 136_000_000
-
 -- the seasons are those of a plant with its inflow, and every term of its consent stands in the list
 pub record SeasonsAt (p : Plant) (x : Concentrations) (s : Seasons) : Type 0 where
   pub value : s ≡ seasons_of p x
   pub listed : p.consent.count ≤ length p.consent.terms
 
--- the seasons are those of a plant's terms, in their limits
+-- the seasons are those of a plant's terms
 pub record TermSeasons (p : Plant) (l : List Season) : Type 0 where
   pub long : length l ≡ p.consent.count
   pub listed : p.consent.count ≤ length p.consent.terms
   pub each : (i : ℕ) → i < length l → get_or l i no_season ≡ season_of (safety_factor p.load) (get_or p.consent.terms i no_term)
-  pub bounds : (i : ℕ) → i < length l → SeasonBounds (get_or l i no_season)
 
 -- nitrification is kept in a season, at the sludge age t
 unfoldable pub season_nitrifies : ℕ → Season → Bool

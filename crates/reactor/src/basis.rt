@@ -5,7 +5,6 @@ ghost use Rattle.rules.specs.Rules.{verdict};
 ghost use Rattle.rules.specs.Consent.{every, terms_of};
 ghost use Rattle.rules.specs.TermSteps.{nitrifies, term_covered};
 ghost use Rattle.rules.specs.Examining.{fraction_rules};
-ghost use Rattle.rules.specs.Ranges.{GridFraction, ReactorBounds};
 ghost use Rattle.rules.specs.Sums.{values_from};
 ghost use Rattle.rules.specs.Limits.{most_terms};
 ghost use Rattle.rules.specs.Explaining.{term_at};
@@ -14,9 +13,8 @@ ghost use Rattle.reactor.specs.Seasons.{SeasonsAt, TermSeasons};
 use crate::age::{corrected_by, sludge_age};
 use crate::nitrate::{covered, removes};
 use crate::sludge::{carbon_sludge_in, sludge_mass};
-use crate::terms::NOT_EXPLAINED;
 use crate::{Season, Seasons};
-use rules::{Accepted, MOST_TERMS, Reactor, Refusal, TermExplained};
+use rules::{Accepted, DailySludge, GridFraction, MOST_TERMS, Reactor, Refusal, TermExplained};
 use std::array;
 use verdicts::rule;
 
@@ -40,26 +38,23 @@ impl Basis {
         }
     }
 
-    // f, t, W, D, K × C or what stands for it, what the dose removes, S and M at a fraction of the grid.
-    pub fn reactor(&self, fraction: u32) -> Reactor
-        requires { GridFraction fraction }
-        ensures { (result ≡ reactor_of self.now.data.plant self.now.data.concentrations fraction) × ReactorBounds result }
+    // f, t, W, D, K × C or what stands for it, what the dose removes, S and M at a fraction.
+    pub fn reactor(&self, fraction: GridFraction) -> Reactor
+        ensures { result ≡ reactor_of self.now.data.plant self.now.data.concentrations fraction }
     {
         let accepted = &self.data;
         let inflow = self.seasons.inflow;
         let design = self.seasons.design;
-        let temperature = design.temperature;
-        let f = u64::from(fraction);
-        let age = sludge_age(design.aerobic_age, f);
-        let corrected = corrected_by(age, design.decay);
-        let removes = removes(accepted, f, temperature, corrected);
-        let sludge = carbon_sludge_in(accepted, corrected) + inflow.phosphorus_sludge;
+        let age = sludge_age(design.aerobic_age, fraction);
+        let corrected = corrected_by(age.get(), design.decay);
+        let carbon = carbon_sludge_in(accepted, corrected);
+        let sludge = DailySludge::new(carbon.get() + inflow.phosphorus_sludge.get());
         Reactor {
-            fraction: f,
+            fraction,
             age,
             nitrified: inflow.nitrified,
             denitrified: inflow.denitrified,
-            removes,
+            removes: removes(accepted, fraction, design.temperature, corrected),
             removed_by_dose: inflow.removed_by_dose,
             sludge,
             mass: sludge_mass(age, sludge),
@@ -67,9 +62,8 @@ impl Basis {
     }
 
     // The verdict on the fraction's rules 7, 15 and 16. The terms are looked at only where the nitrate is covered.
-    pub fn fraction_verdict(&self, reactor: Reactor) -> Result<(), Refusal>
-        requires { ReactorBounds reactor }
-        ensures { result ≡ verdict (fraction_rules self.now.data.plant self.now.data.concentrations reactor) }
+    pub fn fraction_verdict(&self, reactor: &Reactor) -> Result<(), Refusal>
+        ensures { result ≡ verdict (fraction_rules self.now.data.plant self.now.data.concentrations reactor.now) }
     {
         let covered = covered(
             reactor.removes,
@@ -89,46 +83,36 @@ impl Basis {
     }
 
     // Nitrification is kept in every term.
-    fn every_nitrified(&self, reactor: Reactor) -> bool
-        requires { ReactorBounds reactor }
-        ensures { result ≡ every (nitrifies self.now.data.plant reactor) (terms_of self.now.data.plant.consent) }
+    fn every_nitrified(&self, reactor: &Reactor) -> bool
+        ensures { result ≡ every (nitrifies self.now.data.plant reactor.now) (terms_of self.now.data.plant.consent) }
     {
-        for season in self.terms() {
-            if !season.nitrifies(reactor.age) {
-                return false;
-            }
-        }
-        true
+        self.terms()
+            .iter()
+            .all(|season| season.nitrifies(reactor.age))
     }
 
     // The nitrate is covered in every term.
-    fn every_covered(&self, reactor: Reactor) -> bool
-        requires { ReactorBounds reactor }
-        ensures { result ≡ every (term_covered self.now.data.plant self.now.data.concentrations reactor) (terms_of self.now.data.plant.consent) }
+    fn every_covered(&self, reactor: &Reactor) -> bool
+        ensures { result ≡ every (term_covered self.now.data.plant self.now.data.concentrations reactor.now) (terms_of self.now.data.plant.consent) }
     {
-        for season in self.terms() {
-            if !season.covers(&self.data, reactor) {
-                return false;
-            }
-        }
-        true
+        self.terms()
+            .iter()
+            .all(|season| season.covers(&self.data, reactor))
     }
 
     // The figures that explain a reactor in entry i of the consent; zeros past the count.
-    fn term_explained(&self, i: usize, reactor: Reactor) -> TermExplained
-        requires { ReactorBounds reactor }
-        ensures { result ≡ term_at self.now.data.plant self.now.data.concentrations reactor i }
+    fn term_explained(&self, i: usize, reactor: &Reactor) -> TermExplained
+        ensures { result ≡ term_at self.now.data.plant self.now.data.concentrations reactor.now i }
     {
         match self.terms().get(i) {
             Some(season) => season.explained(&self.data, reactor),
-            None => NOT_EXPLAINED,
+            None => TermExplained::default(),
         }
     }
 
     // The figures that explain a reactor in each term of the consent; zeros past their count.
-    pub fn terms_explained(&self, reactor: Reactor) -> [TermExplained; MOST_TERMS]
-        requires { ReactorBounds reactor }
-        ensures { result ≡ values_from 0 most_terms (term_at self.now.data.plant self.now.data.concentrations reactor) }
+    pub fn terms_explained(&self, reactor: &Reactor) -> [TermExplained; MOST_TERMS]
+        ensures { result ≡ values_from 0 most_terms (term_at self.now.data.plant self.now.data.concentrations reactor.now) }
     {
         array::from_fn(|i| self.term_explained(i, reactor))
     }

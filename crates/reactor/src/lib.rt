@@ -12,7 +12,9 @@ mod volume;
 pub use age::{aerobic_age, corrected_age, decay, safety_factor, sludge_age};
 pub use basis::Basis;
 pub use nitrate::capacity_uptake;
-use rules::MOST_TERMS;
+use rules::{
+    DecayFactor, DoseRemoval, MOST_TERMS, Nitrogen, PhosphorusSludge, SludgeAge, Temperature,
+};
 pub use sludge::biomass_decay;
 pub use volume::{reactor_solids, reactor_volume};
 
@@ -20,26 +22,26 @@ pub use volume::{reactor_solids, reactor_volume};
 #[derive(Clone, Copy)]
 pub struct Season {
     // degrees
-    pub temperature: u64,
+    pub temperature: Temperature,
     // nitrate target, mg/m3
     pub target: u64,
     // a at this temperature, thousandths of a day
-    pub aerobic_age: u64,
+    pub aerobic_age: SludgeAge,
     // F at this temperature, millionths
-    pub decay: u64,
+    pub decay: DecayFactor,
 }
 
 // What the inflow asks of a reactor, whatever the fraction.
 #[derive(Clone, Copy)]
 pub struct Inflow {
     // W, nitrogen to nitrify, mg/m3
-    pub nitrified: u64,
+    pub nitrified: Nitrogen,
     // D, nitrate to denitrify, mg/m3
-    pub denitrified: u64,
+    pub denitrified: Nitrogen,
     // nitrate that the dose removes, mg/m3
-    pub removed_by_dose: u64,
+    pub removed_by_dose: DoseRemoval,
     // g/d
-    pub phosphorus_sludge: u64,
+    pub phosphorus_sludge: PhosphorusSludge,
 }
 
 // What does not depend on the fraction: the inflow's figures, the design, and the terms of the consent, as many as the count

@@ -1,50 +1,50 @@
 // The nitrate that the tank must and can remove.
 ghost use Rattle.std.specs.Prelude.{◌≡◌, ◌+◌, ◌-◌, ◌*◌, ◌≤◌, ◌<◌};
 ghost use Rattle.rules.specs.AgeNitrate.{nitrified, denitrified, table_capacity, risen_capacity, capacity_uptake, uptake_capacity, capacity, removes, removed_by_dose, covered};
-ghost use Rattle.rules.specs.Ranges.{GridFraction};
-ghost use Rattle.rules.specs.Limits.{most_temperature, most_fraction, most_nitrogen, most_capacity, most_removes, most_dose, most_removed_by_dose};
+ghost use Rattle.rules.specs.Limits.{most_capacity, most_dose};
 
-use rules::{Accepted, Process, Way};
+use rules::{
+    Accepted, Concentrations, CorrectedAge, DoseRemoval, GridFraction, Nitrogen, OwnRemoval,
+    Process, Temperature, Way,
+};
 
 // W, nitrogen to nitrify, mg/m3.
 #[tactic(auto, unfolding(rules::specs::AgeNitrate::nitrified))]
-pub(crate) fn nitrified(nitrogen: u64, bod: u64) -> u64
-    requires { (nitrogen ≤ most_nitrogen) × (bod ≤ 2_000_000) }
-    ensures { (result ≡ nitrified nitrogen bod) × (result ≤ most_nitrogen) }
+pub(crate) fn nitrified(accepted: &Accepted) -> Nitrogen
+    ensures { result ≡ nitrified accepted.now.concentrations.nitrogen accepted.now.concentrations.bod }
 {
-    nitrogen.saturating_sub(2_000).saturating_sub(4 * bod / 100)
+    let Concentrations { nitrogen, bod, .. } = accepted.concentrations;
+    Nitrogen::new(nitrogen.saturating_sub(2_000).saturating_sub(4 * bod / 100))
 }
 
 // D, nitrate to denitrify, mg/m3.
 #[tactic(auto, unfolding(rules::specs::AgeNitrate::denitrified))]
-pub(crate) fn denitrified(nitrified: u64, target: u64) -> u64
-    requires { nitrified ≤ most_nitrogen }
-    ensures { (result ≡ denitrified nitrified target) × (result ≤ most_nitrogen) }
+pub(crate) fn denitrified(nitrified: Nitrogen, target: u64) -> Nitrogen
+    ensures { result ≡ denitrified nitrified target }
 {
-    nitrified.saturating_sub(target)
+    Nitrogen::new(nitrified.get().saturating_sub(target))
 }
 
 // Table 3, linear between its figures.
 #[tactic(auto, unfolding(rules::specs::AgeNitrate::table_capacity))]
-fn table_capacity(fraction: u64) -> u64
-    requires { GridFraction fraction }
+fn table_capacity(fraction: GridFraction) -> u64
     ensures { (result ≡ table_capacity fraction) × (result ≤ 150) }
 {
-    if fraction <= 300 {
-        110 + 20 * (fraction - 200) / 100
-    } else if fraction <= 400 {
-        130 + 10 * (fraction - 300) / 100
-    } else {
-        140 + 10 * (fraction - 400) / 100
+    let fraction = fraction.get();
+    match fraction {
+        ..=300 => 110 + 20 * (fraction - 200) / 100,
+        ..=400 => 130 + 10 * (fraction - 300) / 100,
+        _ => 140 + 10 * (fraction - 400) / 100,
     }
 }
 
 // The rise of Table 3's figure above 12 degrees, a hundredth for each degree.
 #[tactic(auto, unfolding(rules::specs::AgeNitrate::risen_capacity))]
-fn risen_capacity(table: u64, temperature: u64) -> u64
-    requires { (table ≤ 150) × (temperature ≤ most_temperature) }
+fn risen_capacity(table: u64, temperature: Temperature) -> u64
+    requires { table ≤ 150 }
     ensures { (result ≡ risen_capacity table temperature) × (result ≤ most_capacity) }
 {
+    let temperature = temperature.get();
     if temperature <= 12 {
         table
     } else {
@@ -54,26 +54,29 @@ fn risen_capacity(table: u64, temperature: u64) -> u64
 
 // o, specific oxygen uptake for the capacity, g/kg.
 #[tactic(auto, unfolding(rules::specs::AgeNitrate::capacity_uptake))]
-pub fn capacity_uptake(corrected: u64) -> u64
-    requires { corrected ≤ 42_600 }
+pub fn capacity_uptake(corrected: CorrectedAge) -> u64
     ensures { (result ≡ capacity_uptake corrected) × (result ≤ 1_443) }
 {
+    let corrected = corrected.get();
     560 + 15000 * corrected / (100000 + 17 * corrected)
 }
 
 // The capacity of a process that denitrifies by its oxygen uptake.
 #[tactic(auto, unfolding(rules::specs::AgeNitrate::uptake_capacity))]
-fn uptake_capacity(fraction: u64, corrected: u64) -> u64
-    requires { (fraction ≤ most_fraction) × (corrected ≤ 28_400) }
+fn uptake_capacity(fraction: GridFraction, corrected: CorrectedAge) -> u64
     ensures { (result ≡ uptake_capacity fraction corrected) × (result ≤ most_capacity) }
 {
-    75 * fraction * capacity_uptake(corrected) / 290_000
+    75 * fraction.get() * capacity_uptake(corrected) / 290_000
 }
 
-// K, denitrification capacity, g nitrate nitrogen per kg BOD.
+// K, denitrification capacity, g nitrate nitrogen per kg BOD. Document 01 names the form: a match over the process.
 #[tactic(auto, unfolding(rules::specs::AgeNitrate::capacity))]
-fn capacity(process: Process, fraction: u64, temperature: u64, corrected: u64) -> u64
-    requires { GridFraction fraction × (temperature ≤ most_temperature) × (corrected ≤ 28_400) }
+fn capacity(
+    process: Process,
+    fraction: GridFraction,
+    temperature: Temperature,
+    corrected: CorrectedAge,
+) -> u64
     ensures { (result ≡ capacity process fraction temperature corrected) × (result ≤ most_capacity) }
 {
     match process {
@@ -87,39 +90,39 @@ fn capacity(process: Process, fraction: u64, temperature: u64, corrected: u64) -
 
 // K × C, or what stands for it in the way by COD: a process that denitrifies by its oxygen uptake takes the COD's.
 #[tactic(auto, unfolding(rules::specs::AgeNitrate::removes, rules::specs::AgeNitrate::removes_by_bod, rules::specs::AgeNitrate::removes_by_cod))]
-pub(crate) fn removes(accepted: &Accepted, fraction: u64, temperature: u64, corrected: u64) -> u64
-    requires { GridFraction fraction × (temperature ≤ most_temperature) × (corrected ≤ 28_400) }
-    ensures { (result ≡ removes accepted.now.plant.way accepted.now.plant.process accepted.now.concentrations fraction temperature corrected) × (result ≤ most_removes) }
+pub(crate) fn removes(
+    accepted: &Accepted,
+    fraction: GridFraction,
+    temperature: Temperature,
+    corrected: CorrectedAge,
+) -> OwnRemoval
+    ensures { result ≡ removes accepted.now.plant.way accepted.now.plant.process accepted.now.concentrations fraction temperature corrected }
 {
     let process = accepted.plant.process;
-    let concentrations = &accepted.concentrations;
     match (accepted.plant.way, process) {
         (Way::Cod, Process::Simultaneous | Process::Intermittent) => {
-            cod::removed_by_oxygen(
-                fraction,
-                concentrations.cod,
-                concentrations.solids,
-                corrected,
-            )
+            cod::removed_by_oxygen(accepted, fraction, corrected)
         }
-        _ => capacity(process, fraction, temperature, corrected) * concentrations.bod,
+        _ => {
+            let capacity = capacity(process, fraction, temperature, corrected);
+            OwnRemoval::new(capacity * accepted.concentrations.bod)
+        }
     }
 }
 
 // The nitrate that external carbon removes, mg/m3.
 #[tactic(auto, unfolding(rules::specs::AgeNitrate::removed_by_dose))]
-pub(crate) fn removed_by_dose(dose: u64) -> u64
+pub(crate) fn removed_by_dose(dose: u64) -> DoseRemoval
     requires { dose ≤ most_dose }
-    ensures { (result ≡ removed_by_dose dose) × (result ≤ most_removed_by_dose) }
+    ensures { result ≡ removed_by_dose dose }
 {
-    dose / 5
+    DoseRemoval::new(dose / 5)
 }
 
 // Whether the tank's own carbon and the dose cover the nitrate to denitrify.
 #[tactic(auto, unfolding(rules::specs::AgeNitrate::covered))]
-pub(crate) fn covered(removes: u64, by_dose: u64, denitrified: u64) -> bool
-    requires { (removes ≤ most_removes) × (by_dose ≤ most_removed_by_dose) × (denitrified ≤ most_nitrogen) }
+pub(crate) fn covered(removes: OwnRemoval, by_dose: DoseRemoval, denitrified: Nitrogen) -> bool
     ensures { result ≡ covered removes by_dose denitrified }
 {
-    removes + 1000 * by_dose >= 1000 * denitrified
+    removes.get() + 1000 * by_dose.get() >= 1000 * denitrified.get()
 }

@@ -1,4 +1,3 @@
--- Laws that the proofs of other crates cite, a worked request, and a law of arrays that a closure fills.
+-- Laws that the proofs of other crates cite, and a worked request.
 pub mod Lengths
 pub mod CaseA
-pub mod FromFn

@@ -1,4 +1,5 @@
-// A request's bytes decoded by the layout of the newest version, or found malformed.
+// A request's bytes decoded by the layout of the newest version, or found malformed. The layout is C's: each figure is read by the
+// number of its word.
 #![tactic(auto)]
 
 ghost use Rattle.std.specs.Prelude.{◌≡◌, ◌+◌, ◌*◌, ◌≤◌, leb, length, OnOk};
@@ -82,7 +83,7 @@ pub const LINE_WORDS: usize = WORKS_WORDS + 1;
 // The bytes of the longest request.
 pub const LONGEST_REQUEST: usize = 4_096;
 
-// A reading by its kind's code and its second word, the bits of an f32 or a head count.
+// A reading by its kind's code and its second word, the bits of an f32 or a head count: no `TryFrom`, since it is of two words.
 fn reading(code: u32, value: u32) -> Result<Reading, Fault>
     ensures { result ≡ where_known (leb code last_reading) (reading_of code value) }
 {

@@ -1,4 +1,5 @@
-// The calls on a sweep whose state is bytes that the caller keeps: a start, an advance, and an examination. Any bytes are answered.
+// The calls on a sweep whose state is bytes that the caller keeps: a start, an advance, and an examination. Any bytes are answered. The
+// layout is C's: each figure is read by the number of its word.
 #![tactic(auto)]
 
 ghost use Rattle.std.specs.Prelude.{◌≡◌, ◌∷◌, ◌*◌, ◌≤◌, length, Ok, Err};
@@ -23,7 +24,7 @@ const DATA_LENGTH: usize = 4 * request::DATA_WORDS;
 
 const STATE_LENGTH: usize = DATA_LENGTH + 4 * SWEEP_WORDS;
 
-// The number of an unfinished sweep.
+// The number of an unfinished sweep: C is given numbers alone.
 const UNFINISHED: u32 = 100;
 
 // A best by its three words: zeros are none yet.
@@ -41,7 +42,7 @@ fn best_of(fraction: u32, return_ratio: u32, thickening: u32) -> Option<Candidat
     })
 }
 
-// The own words of a sweep's state: the number asked for, and three of the best.
+// The own words of a sweep's state, in the layout's order: the number asked for, and three of the best.
 #[tactic(auto, unfolding(crate::specs::States::best_words))]
 fn own_words(sweep: Sweep) -> [u32; SWEEP_WORDS]
     ensures { result ≡ sweep.asked ∷ best_words sweep.best }

@@ -1,7 +1,7 @@
 -- Plant data and readings are accepted exactly when none of 1, 17, 2 to 4 and 14 is broken, with the readings' own values, and
 -- refused with n exactly when n is the first one broken. Accepted data are in their ranges. Assumes nothing.
 use mathlib.Core.Logic.{◌↔◌}
-use mathlib.Core.Path.{◌≡◌, refl, sym, ap}
+use mathlib.Core.Path.{◌≡◌, refl, ap}
 use mathlib.Core.Bool.{Bool, not}
 use mathlib.Core.List.{List, [], ◌∷◌, ◌++◌}
 use Prim.Native.Nat.{ℕ, ◌≤◌}
@@ -29,17 +29,17 @@ use Rattle.rules.proofs.RuleLists.{all_kept_verdict, broken_verdict, kept_append
 
 -- an acceptance is not a refusal
 pub refused_no : (n : Refusal) (x : Concentrations) → Err n ≡ Ok x → ⊥
-refused_no n x e = let z : ◌≡◌ {A = ℕ} 0 1 = cc in omega arith
+refused_no n x e = cc
 
 -- what an acceptance tells of the verdict that it was made by
 by_verdict : (v : Verdict) (x y : Concentrations) → accept_by v x ≡ Ok y → (v ≡ (Ok tt)) × (x ≡ y)
 unfolding accept_by
 by_verdict (Ok u) x y e = (refl, cc)
-by_verdict (Err n) x y e = absurd (refused_no n y e)
+by_verdict (Err n) x y e = cc
 
 by_broken : (v : Verdict) (x : Concentrations) (n : Refusal) → accept_by v x ≡ Err n → v ≡ Err n
 unfolding accept_by
-by_broken (Ok u) x n e = absurd (refused_no n x (sym e))
+by_broken (Ok u) x n e = cc
 by_broken (Err m) x n e = cc
 
 -- what any list of rules accepts breaks none of them, with the values that it was given ..

@@ -8,6 +8,7 @@ use Prim.Native.Nat.{◌≤◌, ◌<◌}
 use borrow.Author.Tests.{le-leb, lt-leb, leb-false}
 use lib.Dec.{T, leb}
 use Rattle.std.specs.Prelude.{Err}
+use denote.Floats.{is_true}
 use Rattle.rules.specs.Limits.{most_index}
 use Rattle.rules.specs.Rules.{Rule, rule, verdict}
 use Rattle.rules.specs.PlantData.{plant_in_range}
@@ -56,11 +57,7 @@ due : (p : Plant) (r : Readings) → T (plant_in_range p) → most_index < p.slu
 unfolding accept accept_by
 due p r t h =
     ap (λ (v : Verdict). accept_by v (values_of p r))
-    (by_tests p r true false (holds (plant_in_range p) t) (lt-leb p.sludge_volume_index most_index h))
-  where
-    holds : (b : Bool) → T b → b ≡ true
-    holds true t = refl
-    holds false t = absurd t
+    (by_tests p r true false (is_true (plant_in_range p) t) (lt-leb p.sludge_volume_index most_index h))
 
 -- For all data with the figures in range and an index above 180: every call answers 17.
 pub bulking_refused : (p : Plant) → T (plant_in_range p) → most_index < p.sludge_volume_index → BulkingRefused p

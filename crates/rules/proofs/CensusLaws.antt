@@ -10,6 +10,8 @@ use native.Mathlib.Omega.{arith}
 use borrow.Author.Tests.{eq-eqb, ne_eqb}
 use lib.Dec.{T, eqb, leb}
 use Rattle.std.specs.Prelude.{Ok, Err}
+use denote.Floats.{is_true}
+use Rattle.std.proofs.lemmas.Bool.{cond-true, cond_both}
 use Rattle.rules.specs.Sums.{sum_from}
 use Rattle.rules.specs.Rules.{rule, verdict, after}
 use Rattle.rules.specs.AgeNitrate.{on_grid, covered}
@@ -40,11 +42,7 @@ pub one_other : (n k : ℕ) → (n ≡ k → ⊥) → one n k ≡ 0
 one_other n k apart = ap (λ (b : Bool). cond b 1 0) (ne_eqb n k apart)
 
 pub one_most : (n k : ℕ) → one n k ≤ 1
-one_most n k = go (eqb n k)
-  where
-    go : (b : Bool) → cond b 1 0 ≤ 1
-    go true = omega arith
-    go false = omega arith
+one_most n k = cond_both (eqb n k) 1 0 (λ m. m ≤ 1) (λ e. omega arith) (λ e. omega arith)
 
 -- of the first m numbers a number is none where it is not below m, and else one
 none_of : (n m : ℕ) → m ≤ n → sum_from 0 m (one n) ≡ 0
@@ -82,10 +80,6 @@ fraction_verdict p x f = verdict (fraction_rules p x (reactor_of p x f))
 abbrev pub tank_verdict : Plant → ℕ → ℕ → Verdict
 tank_verdict p r h = verdict (tank_rules p (settling_of p r h))
 
-on_grid_first : (b : Bool) (v w : Verdict) → T b → cond b v w ≡ v
-on_grid_first true v w t = refl
-on_grid_first false v w t = absurd t
-
 -- a candidate of the grid is answered by its fraction's and its tank's verdict in turn
 pub judged_number :
     (p : Plant) (x : Concentrations) (y : Candidate)
@@ -96,7 +90,7 @@ unfolding judge candidate_rules
 judged_number p x y on =
     answer_verdict_lem (verdict (candidate_rules p x y)) (sheet_of p x y)
     ∙ ap answer_number
-    (on_grid_first (on_grid p.tank y) _ (Err Refusal.OffGrid) on
+    (cond-true (on_grid p.tank y) _ (Err Refusal.OffGrid) (is_true (on_grid p.tank y) on)
     ∙ verdict_append (fraction_rules p x (reactor_of p x y.fraction)) (tank_rules p (settling_of p y.return_ratio y.thickening)))
 
 -- ---- the counts add up

@@ -61,7 +61,7 @@ five_when_none p r a kept chosen = go a (subst (ChosenAccepted p a) (none_due_ac
 
     go : (a : Answer) → ChosenAmong p x (grid p) a → (a ≡ Err Refusal.NoDesign) ↔ (counted p x 0 ≡ 0)
     go (Ok s) least = (
-      λ e. absurd (let z : ◌≡◌ {A = ℕ} 0 1 = cc in omega arith),
+      λ e. cc,
       λ e. absurd ((none_permitted p x).0 e (candidate_of s) least.member least.allowed),
     )
     go (Err n) none = (λ e. (none_permitted p x).1 none.1, λ e. ap Err none.0)

@@ -10,12 +10,9 @@ use lib.Dec.{leb}
 use Rattle.rules.specs.Rounding.{down}
 use Rattle.rules.specs.SettlingSteps.{root_from, root_by_digits, cube_root}
 
-cube_mono : {a b : ℕ} → a ≤ b → a * a * a ≤ b * b * b
-cube_mono h = mul-le-mul (mul-le-mul h h) h
-
 -- of two numbers the one with the smaller cube is the smaller
 pub cube_lt : (a b : ℕ) → a * a * a < b * b * b → a < b
-cube_lt a b h = lt_of_not-le (λ l. let m : b * b * b ≤ a * a * a = cube_mono l in omega arith)
+cube_lt a b h = lt_of_not-le (λ l. let m : b * b * b ≤ a * a * a = mul-le-mul (mul-le-mul l l) l in omega arith)
 
 -- c's cube is at most n, and the cube of the next number is above n
 pub record Root (n c : ℕ) : Type 0 where

@@ -1,18 +1,19 @@
 -- When 12 and 13 are due of a day log, and what its answer carries. Assumes nothing.
 use mathlib.Core.Logic.{◌↔◌, ◌⊎◌, inl, inr}
 use mathlib.Core.Path.{◌≡◌, refl, sym, ap, ◌∙◌}
-use mathlib.Core.Bool.{Bool, true, false, not, ◌&&◌}
+use mathlib.Core.Bool.{Bool, true, false, not, ◌&&◌, and_comm}
 use mathlib.Core.List.{List}
-use Prim.Native.Nat.{ℕ, zero, suc, ◌+◌, ◌*◌, ◌≤◌, ◌<◌}
+use Prim.Native.Nat.{ℕ, zero, suc, ◌+◌, ◌-◌, ◌*◌, ◌≤◌, ◌<◌}
 use native.Mathlib.Nat.{eq-or-lt_of_le}
 use native.Mathlib.Omega.{arith}
-use borrow.Author.Tests.{eqb-true, eq-eqb}
-use denote.Floats.{passes}
-use lib.Dec.{T, eqb}
+use denote.Floats.{passes, is_true}
+use lib.Dec.{T, eqb, eqb→eq, T_not, not_T}
 use lib.Ieee.{Float}
-use lib.Ieee.Fits.{and_i, and_l, and_r}
+use lib.Ieee.Fits.{and_i, and_l, and_r, eq→eqb}
 use lib.ListN.{length}
 use Rattle.std.specs.Prelude.{Result, Ok, Err}
+use Rattle.std.specs.Bool.{Decides}
+use Rattle.std.proofs.lemmas.Bool.Decides.{Decides-below_and}
 use Rattle.rules.specs.PlantData.{within}
 use Rattle.rules.specs.LabReadings.{no_number, thousandths, reading_no_number, reading_value}
 use Rattle.rules.specs.Rules.{all_kept, verdict, FirstBroken}
@@ -26,7 +27,7 @@ use Rattle.rules.specs.declared.Refusal.{Refusal}
 use Rattle.rules.specs.Results.{Verdict}
 use Rattle.rules.specs.declared.TwoWeekLoad.{TwoWeekLoad}
 use Rattle.rules.proofs.Tests.{within_between}
-use Rattle.rules.proofs.RuleLists.{kept_not_broken, all_kept_verdict, broken_verdict}
+use Rattle.rules.proofs.RuleLists.{all_kept_verdict, broken_verdict}
 use Rattle.rules.proofs.HighestLoad.{highest, highest_once}
 
 -- a value is a number, and has its thousandths, as a measured reading does
@@ -38,24 +39,18 @@ as_measured q s k x = (refl, refl)
 
 -- ---- rule 12
 
-truth : (b : Bool) → T b → b ≡ true
-truth true t = refl
-truth false t = absurd t
-
 pub log_whole_lem : (log : List ℕ) → T (log_whole log) ↔ Whole log
 unfolding log_whole
 log_whole_lem log = (
   λ t.
       record {
         count = (within_between 14 3_660 (day_count log)).0 (and_l (within 14 3_660 (day_count log)) (eqb (length log) (4 + 8 * day_count log)) t);
-        size =
-            eqb-true (length log) (4 + 8 * day_count log)
-            (truth (eqb (length log) (4 + 8 * day_count log)) (and_r (within 14 3_660 (day_count log)) (eqb (length log) (4 + 8 * day_count log)) t));
+        size = eqb→eq (length log) (4 + 8 * day_count log) (and_r (within 14 3_660 (day_count log)) (eqb (length log) (4 + 8 * day_count log)) t);
       },
   λ h.
       and_i (within 14 3_660 (day_count log)) (eqb (length log) (4 + 8 * day_count log))
       ((within_between 14 3_660 (day_count log)).1 h.count)
-      (passes (eqb (length log) (4 + 8 * day_count log)) (eq-eqb (length log) (4 + 8 * day_count log) h.size)),
+      (eq→eqb h.size),
 )
 
 -- ---- rule 13
@@ -63,22 +58,16 @@ log_whole_lem log = (
 -- both values of each of the days 1 to n are kept
 pub days_kept_lem : (log : List ℕ) (n : ℕ) → T (days_kept log n) ↔ ((d : ℕ) → 1 ≤ d → d ≤ n → T (day_kept (day_of log d)))
 unfolding days_kept
-days_kept_lem log zero = (λ t d l m. absurd (omega arith), λ h. tt)
-days_kept_lem log (suc n) = go (days_kept_lem log n)
+days_kept_lem log n = (
+  λ t d l m. let e : d - 1 + 1 ≡ d = omega arith in rw e at (kept.0 (is_true (days_kept log n) t) (d - 1) (omega arith)),
+  λ h. passes (days_kept log n) (kept.1 (λ k l. h (k + 1) (omega arith) (omega arith))),
+)
   where
-    go :
-        T (days_kept log n) ↔ ((d : ℕ) → 1 ≤ d → d ≤ n → T (day_kept (day_of log d)))
-        → T (days_kept log n && day_kept (day_of log (n + 1))) ↔ ((d : ℕ) → 1 ≤ d → d ≤ suc n → T (day_kept (day_of log d)))
-    go before = (
-      λ t d l m. at t d l (eq-or-lt_of_le m),
-      λ h. and_i (days_kept log n) (day_kept (day_of log (n + 1))) (before.1 (λ d l m. h d l (omega arith))) (h (n + 1) (omega arith) (omega arith)),
-    )
-      where
-        at : T (days_kept log n && day_kept (day_of log (n + 1))) → (d : ℕ) → 1 ≤ d → (d ≡ suc n) ⊎ (d < suc n) → T (day_kept (day_of log d))
-        at t d l (inl e) =
-            let here : d ≡ n + 1 = omega arith in
-            rw here (and_r (days_kept log n) (day_kept (day_of log (n + 1))) t)
-        at t d l (inr less) = before.0 (and_l (days_kept log n) (day_kept (day_of log (n + 1))) t) d l (omega arith)
+    day : ℕ → Bool
+    day k = day_kept (day_of log (k + 1))
+
+    kept : Decides (days_kept log n) ((k : ℕ) → k < n → T (day k))
+    kept = Decides-below_and day (λ k. T (day k)) (days_kept log) (λ k. (passes (day k), is_true (day k))) refl (λ m. and_comm (days_kept log m) (day m)) n
 
 pub days_broken : (log : List ℕ) (n : ℕ) → T (not (days_kept log n)) ↔ BrokenDay log n
 unfolding days_kept
@@ -105,27 +94,15 @@ days_broken log (suc n) = go (days_kept log n) refl (day_kept (day_of log (n + 1
 
 -- ---- when each is due
 
-not_true : (b : Bool) → T (not b) → T b → ⊥
-not_true true t u = t
-not_true false t u = u
-
-true_or_not : (b : Bool) → T b ⊎ T (not b)
-true_or_not true = inl tt
-true_or_not false = inr tt
-
 -- 12 exactly when the log is not whole
 pub due_12 : (log : List ℕ) → FirstBroken (log_rules log) Refusal.DayLog ↔ (Whole log → ⊥)
 unfolding log_rules
-due_12 log = (forth, λ h. back h (true_or_not (log_whole log)))
+due_12 log = (forth, λ h. inl (not_T (log_whole log) (λ t. h ((log_whole_lem log).0 t)), refl))
   where
     forth : FirstBroken (log_rules log) Refusal.DayLog → Whole log → ⊥
-    forth (inl f) w = not_true (log_whole log) f.0 ((log_whole_lem log).1 w)
-    forth (inr (t, inl f)) w = let z : ◌≡◌ {A = ℕ} 0 1 = cc in omega arith
+    forth (inl f) w = T_not (log_whole log) f.0 ((log_whole_lem log).1 w)
+    forth (inr (t, inl f)) w = cc
     forth (inr (t, inr f)) w = f.1
-
-    back : (Whole log → ⊥) → T (log_whole log) ⊎ T (not (log_whole log)) → FirstBroken (log_rules log) Refusal.DayLog
-    back h (inl t) = absurd (h ((log_whole_lem log).0 t))
-    back h (inr t) = inl (t, refl)
 
 -- 13 exactly when it is whole, and a value of a day is not kept
 pub due_13 : (log : List ℕ) → FirstBroken (log_rules log) Refusal.DayValue ↔ (Whole log × BrokenDay log (day_count log))
@@ -133,7 +110,7 @@ unfolding log_rules
 due_13 log = (forth, λ h. inr ((log_whole_lem log).1 h.0, inl ((days_broken log (day_count log)).1 h.1, refl)))
   where
     forth : FirstBroken (log_rules log) Refusal.DayValue → Whole log × BrokenDay log (day_count log)
-    forth (inl f) = absurd (let z : ◌≡◌ {A = ℕ} 0 1 = cc in omega arith)
+    forth (inl f) = cc
     forth (inr (t, inl f)) = ((log_whole_lem log).0 t, (days_broken log (day_count log)).0 f.0)
     forth (inr (t, inr f)) = absurd f.1
 
@@ -146,17 +123,15 @@ load_refused_when_due log n = (
 )
   where
     forth : (v : Verdict) → load_by v (highest_of (window_load log) (windows log)) ≡ Err n → v ≡ Err n
-    forth (Ok u) e = absurd (let z : ◌≡◌ {A = ℕ} 0 1 = cc in omega arith)
-    forth (Err m) e = let same : m ≡ n = cc in ap Err same
+    forth (Ok u) e = cc
+    forth (Err m) e = cc
 
 -- a log keeps the rules or breaks one of them first, and not both
 not_both : (log : List ℕ) → T (all_kept (log_rules log)) → (n : Refusal) → FirstBroken (log_rules log) n → ⊥
-not_both log t n f = kept_not_broken n (sym ((broken_verdict (log_rules log) n).0 f) ∙ (all_kept_verdict (log_rules log)).0 t)
+not_both log t n f = cc ((broken_verdict (log_rules log) n).0 f, (all_kept_verdict (log_rules log)).0 t)
 
 due_once : (log : List ℕ) (n m : Refusal) → FirstBroken (log_rules log) n → FirstBroken (log_rules log) m → n ≡ m
-due_once log n m f g =
-    let same : Err n ≡ Err m = sym ((broken_verdict (log_rules log) n).0 f) ∙ (broken_verdict (log_rules log) m).0 g in
-    cc
+due_once log n m f g = cc ((broken_verdict (log_rules log) n).0 f, (broken_verdict (log_rules log) m).0 g)
 
 -- ---- what an answer carries
 

@@ -10,6 +10,7 @@ use borrow.Author.Tests.{le-leb}
 use lib.Dec.{T}
 use lib.Ieee.Fits.{and_i}
 use Rattle.std.specs.Prelude.{Ok, Err}
+use denote.Floats.{is_true}
 use Rattle.rules.specs.Limits.{least_term_temperature, most_temperature, least_nitrate_target, most_nitrate_target, most_terms}
 use Rattle.rules.specs.Rules.{Rule, rule, verdict}
 use Rattle.rules.specs.PlantData.{within, plant_figures, figures_without_dose, plant_in_range}
@@ -71,14 +72,10 @@ module _ (p : Plant) (more fewer : Consent) (h : OneMore p more fewer) where
       let target : T (within least_nitrate_target most_nitrate_target p.nitrate_target) = (within_between least_nitrate_target most_nitrate_target p.nitrate_target).1 b.1.1.1.1.1.1.0 in
       let days = date_valid h.term.first && date_valid h.term.last in
       rw (at.temperature, at.target)
-      (holds (days && within least_term_temperature most_temperature p.design_temperature && within least_nitrate_target most_nitrate_target p.nitrate_target)
+      (is_true (days && within least_term_temperature most_temperature p.design_temperature && within least_nitrate_target most_nitrate_target p.nitrate_target)
       (and_i (days && within least_term_temperature most_temperature p.design_temperature) (within least_nitrate_target most_nitrate_target p.nitrate_target)
       (and_i days (within least_term_temperature most_temperature p.design_temperature) at.days warm)
       target))
-    where
-      holds : (b : Bool) → T b → b ≡ true
-      holds true t = refl
-      holds false t = absurd t
 
   consents_valid : T (plant_in_range p) → consent_valid more ≡ consent_valid fewer
   unfolding consent_valid

@@ -11,7 +11,7 @@ use lib.Ieee.Fits.{and_i, and_l, and_r}
 use Rattle.rules.specs.Limits.{least_term_temperature, most_temperature, least_nitrate_target, most_nitrate_target, most_terms}
 use Rattle.rules.specs.PlantData.{within}
 use Rattle.rules.specs.Consent.{date_valid, term_valid, no_term, terms_of, every, consent_valid}
-use Rattle.rules.specs.Ranges.{Between, TermTemperature}
+use Rattle.rules.specs.Ranges.{Between}
 use Rattle.rules.specs.declared.Term.{Term}
 use Rattle.rules.specs.declared.Consent.{Consent}
 use Rattle.rules.proofs.Tests.{within_between}
@@ -36,7 +36,7 @@ every_at f (term ∷ later) (suc n) (suc i) t below within =
 
 -- what is known of a valid term
 pub record TermRanges (term : Term) : Type 0 where
-  pub temperature : TermTemperature term.temperature
+  pub temperature : Between least_term_temperature most_temperature term.temperature
   pub target : Between least_nitrate_target most_nitrate_target term.nitrate_target
 
 pub term_ranges : (term : Term) → T (term_valid term) → TermRanges term

@@ -5,7 +5,6 @@ use mathlib.Core.Logic.{◌↔◌}
 use mathlib.Core.Path.{◌≡◌, refl, ap, sym, ◌∙◌}
 use mathlib.Core.List.{List, ◌++◌}
 use Prim.Native.Nat.{ℕ}
-use native.Mathlib.Omega.{arith}
 use lib.Dec.{T}
 use lib.Ieee.Fits.{and_i, and_l, and_r}
 use Rattle.std.specs.Prelude.{Ok, Err}
@@ -26,17 +25,14 @@ use Rattle.rules.proofs.RuleLists.{all_kept_verdict, broken_verdict, kept_append
 
 -- ---- a verdict's answer
 
-refused_no_sheet : (n : Refusal) (s : Sheet) → Err n ≡ Ok s → ⊥
-refused_no_sheet n s e = let z : ◌≡◌ {A = ℕ} 0 1 = cc in omega arith
-
 designed_by : (v : Verdict) (s t : Sheet) → (answer_by v s ≡ Ok t) ↔ ((v ≡ (Ok tt)) × (s ≡ t))
 unfolding answer_by
 designed_by (Ok u) s t = (λ e. (refl, cc), λ h. ap Ok h.1)
-designed_by (Err n) s t = (λ e. absurd (refused_no_sheet n t e), λ h. absurd (let z : ◌≡◌ {A = ℕ} 0 1 = cc h.0 in omega arith))
+designed_by (Err n) s t = (λ e. cc, λ h. cc h.0)
 
 refused_by : (v : Verdict) (s : Sheet) (n : Refusal) → (answer_by v s ≡ Err n) ↔ (v ≡ Err n)
 unfolding answer_by
-refused_by (Ok u) s n = (λ e. absurd (refused_no_sheet n s (sym e)), λ h. absurd (let z : ◌≡◌ {A = ℕ} 0 1 = cc in omega arith))
+refused_by (Ok u) s n = (λ e. cc, λ h. cc)
 refused_by (Err m) s n = (λ e. cc, λ h. cc)
 
 -- the answer that rules in order give to a sheet: it is the sheet exactly when all are kept, n exactly when n is the first broken

@@ -2,12 +2,10 @@
 -- the call promises of them. Assumes nothing.
 use mathlib.Core.Logic.{◌↔◌, inl, inr}
 use mathlib.Core.Path.{◌≡◌, refl, ap, sym, subst, ◌∙◌}
-use mathlib.Core.Bool.{Bool, true, false}
 use mathlib.Core.List.{List}
-use Prim.Native.Nat.{ℕ, ◌≤◌}
+use Prim.Native.Nat.{ℕ, suc, ◌≤◌, ◌<◌}
 use native.Mathlib.Omega.{arith}
-use native.Mathlib.Nat.{le_antisymm}
-use borrow.Author.Tests.{leb-true, leb-false}
+use native.Mathlib.Nat.{lt_of_not-le, le_antisymm}
 use lib.Dec.{T, leb, leb→le, le→leb}
 use lib.Ieee.Fits.{and_i, and_l, and_r}
 use Rattle.std.specs.Prelude.{Result, Ok, Err, Option, Some, None}
@@ -68,11 +66,7 @@ lost_once :
 lost_once p x e span i j a b = le_antisymm (no_later i j a b) (no_later j i b a)
   where
     no_later : (i j : ℕ) → SmallestLost p x e span i → SmallestLost p x e span j → i ≤ j
-    no_later i j a b = go (leb i j) refl
-      where
-        go : (t : Bool) → leb i j ≡ t → i ≤ j
-        go true s = leb-true i j s
-        go false s = absurd (b.lost (a.smaller j b.member (leb-false i j s)))
+    no_later i j a b = let below : i < suc j = lt_of_not-le (λ l. b.lost (a.smaller j b.member l)) in omega arith
 
 -- two answers for the same data, tanks and span are the same
 pub built_once :

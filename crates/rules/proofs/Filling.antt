@@ -1,12 +1,10 @@
 -- A list while it is filled with a function's values, number by number. Assumes nothing.
-use mathlib.Core.Path.{◌≡◌, subst, sym, ◌∙◌}
-use mathlib.Core.Logic.{◌⊎◌, inl, inr}
+use mathlib.Core.Path.{◌≡◌, ◌∙◌}
 use mathlib.Core.List.{List}
-use Prim.Native.Nat.{ℕ, ◌+◌, ◌≤◌, ◌<◌}
-use native.Mathlib.Nat.{eq-or-lt_of_le}
+use Prim.Native.Nat.{ℕ, ◌+◌, ◌<◌}
 use native.Mathlib.Omega.{arith}
 use lib.ListN.{length, get_or, set, length-set, replicate, length-replicate}
-use lib.Seq.{get_or-set_same, get_or-set_other}
+use Rattle.std.proofs.lemmas.List.Edits.{fill_by_more}
 use Rattle.rules.specs.Sums.{values_from}
 use Rattle.rules.proofs.SumLaws.{list_of_values}
 
@@ -20,17 +18,9 @@ module _ {A : Type 0} (d : A) (size : ℕ) (g : ℕ → A) where
   empty a = record { whole = length-replicate {A = A} size a; holds = λ k b. absurd (omega arith) }
 
   pub entered : (n : ℕ) (v : A) (l : List A) → n < size → v ≡ g n → FilledTo d size g n l → FilledTo d size g (n + 1) (set l n v)
-  entered n v l b e f = record { whole = length-set l n v ∙ f.whole; holds = λ k m. go k (eq-or-lt_of_le (at_most k m)) }
-    where
-      at_most : (k : ℕ) → k < n + 1 → k ≤ n
-      at_most k m = omega arith
-
-      here : n < length l
-      here = omega (arith, f.whole)
-
-      go : (k : ℕ) → (k ≡ n) ⊎ (k < n) → get_or (set l n v) k d ≡ g k
-      go k (inl same) = subst (λ (j : ℕ). get_or (set l n v) j d ≡ g j) (sym same) (get_or-set_same l n v d here ∙ e)
-      go k (inr less) = get_or-set_other l n k v d (λ s. omega arith) ∙ f.holds k less
+  entered n v l b e f =
+      let here : n < length l = omega (arith, f.whole) in
+      rw e (record { whole = length-set l n (g n) ∙ f.whole; holds = fill_by_more g l n d here f.holds })
 
   pub full : (l : List A) → FilledTo d size g size l → l ≡ values_from 0 size g
   full l f = list_of_values d size g l f.whole f.holds

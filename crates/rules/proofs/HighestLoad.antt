@@ -1,14 +1,13 @@
 -- The highest two-week load: what the recursion gives is the load of a window, none is larger, and every earlier one is
 -- smaller; and there is one such load. Assumes nothing.
-use mathlib.Core.Logic.{◌⊎◌, inl, inr}
 use mathlib.Core.Path.{◌≡◌, refl, sym, subst}
-use mathlib.Core.Bool.{Bool, true, false, cond}
 use mathlib.Core.List.{List}
 use Prim.Native.Nat.{ℕ, zero, suc, ◌+◌, ◌-◌, ◌≤◌, ◌<◌}
-use native.Mathlib.Nat.{eq-or-lt_of_le}
 use native.Mathlib.Omega.{arith}
 use borrow.Author.Tests.{ltb-true, ltb-false}
 use lib.Dec.{ltb}
+use borrow.Author.Count.{below_more}
+use Rattle.std.proofs.lemmas.Bool.{cond_both}
 use Rattle.rules.specs.DayLog.{day_count, window_load, windows, higher, highest_of}
 use Rattle.rules.specs.DayLogOutcome.{Highest}
 use Rattle.rules.specs.declared.TwoWeekLoad.{TwoWeekLoad}
@@ -24,57 +23,46 @@ pub record Among (w : ℕ → ℕ) (n : ℕ) (load : TwoWeekLoad) : Type 0 where
 module _ (w : ℕ → ℕ) where
   -- the days up to n + 1 are those up to n, and n + 1
   one_more : (n s : ℕ) → ((d : ℕ) → 1 ≤ d → d ≤ n → w d ≤ s) → w (n + 1) ≤ s → (d : ℕ) → 1 ≤ d → d ≤ n + 1 → w d ≤ s
-  one_more n s before here d l m = go (eq-or-lt_of_le m)
-    where
-      go : (d ≡ n + 1) ⊎ (d < n + 1) → w d ≤ s
-      go (inl e) = rw e here
-      go (inr less) = before d l (omega arith)
+  one_more n s before here d l m =
+      below_more (λ (d : ℕ). 1 ≤ d → w d ≤ s) (n + 1) (λ d m l. before d l (omega arith)) (λ l. here) d (omega arith) l
 
   -- one window alone
   one_window : Among w 1 (highest_of w 1)
   unfolding highest_of higher
-  one_window = go (ltb 0 (w 1)) refl
+  one_window =
+      cond_both (ltb 0 (w 1)) (record { sum = w 1; day = 1 }) (record { sum = 0; day = 1 }) (Among w 1)
+      (λ q.
+      record { first = omega arith; last = omega arith; exact = refl; no_larger = only (w 1) (omega arith); earlier_smaller = λ d l m. absurd (omega arith) })
+      (λ q.
+      let none : w 1 ≤ 0 = ltb-false 0 (w 1) q in
+      record { first = omega arith; last = omega arith; exact = omega arith; no_larger = only 0 none; earlier_smaller = λ d l m. absurd (omega arith) })
     where
-      of : Bool → TwoWeekLoad
-      of b = cond b (record { sum = w 1; day = 1 }) (record { sum = 0; day = 1 })
-
       only : (s : ℕ) → w 1 ≤ s → (d : ℕ) → 1 ≤ d → d ≤ 1 → w d ≤ s
       only s h d l m = let e : d ≡ 1 = omega arith in rw e h
-
-      go : (b : Bool) → ltb 0 (w 1) ≡ b → Among w 1 (of b)
-      go true q =
-          record { first = omega arith; last = omega arith; exact = refl; no_larger = only (w 1) (omega arith); earlier_smaller = λ d l m. absurd (omega arith) }
-      go false q =
-          let none : w 1 ≤ 0 = ltb-false 0 (w 1) q in
-          record { first = omega arith; last = omega arith; exact = omega arith; no_larger = only 0 none; earlier_smaller = λ d l m. absurd (omega arith) }
 
   -- one window more
   next_window : (n : ℕ) (best : TwoWeekLoad) → Among w n best → Among w (n + 1) (higher best (w (n + 1)) (n + 1))
   unfolding higher
-  next_window n best a = go (ltb best.sum (w (n + 1))) refl
-    where
-      of : Bool → TwoWeekLoad
-      of b = cond b (record { sum = w (n + 1); day = n + 1 }) best
-
-      go : (b : Bool) → ltb best.sum (w (n + 1)) ≡ b → Among w (n + 1) (of b)
-      go true q =
-          let more : best.sum < w (n + 1) = ltb-true best.sum (w (n + 1)) q in
-          record {
-            first = omega arith;
-            last = omega arith;
-            exact = refl;
-            no_larger = one_more n (w (n + 1)) (λ d l m. omega (arith, a.no_larger d l m)) (omega arith);
-            earlier_smaller = λ d l m. omega (arith, a.no_larger d l (omega arith));
-          }
-      go false q =
-          let less : w (n + 1) ≤ best.sum = ltb-false best.sum (w (n + 1)) q in
-          record {
-            first = a.first;
-            last = omega (arith, a.last);
-            exact = a.exact;
-            no_larger = one_more n best.sum a.no_larger less;
-            earlier_smaller = a.earlier_smaller;
-          }
+  next_window n best a =
+      cond_both (ltb best.sum (w (n + 1))) (record { sum = w (n + 1); day = n + 1 }) best (Among w (n + 1))
+      (λ q.
+      let more : best.sum < w (n + 1) = ltb-true best.sum (w (n + 1)) q in
+      record {
+        first = omega arith;
+        last = omega arith;
+        exact = refl;
+        no_larger = one_more n (w (n + 1)) (λ d l m. omega (arith, a.no_larger d l m)) (omega arith);
+        earlier_smaller = λ d l m. omega (arith, a.no_larger d l (omega arith));
+      })
+      (λ q.
+      let less : w (n + 1) ≤ best.sum = ltb-false best.sum (w (n + 1)) q in
+      record {
+        first = a.first;
+        last = omega (arith, a.last);
+        exact = a.exact;
+        no_larger = one_more n best.sum a.no_larger less;
+        earlier_smaller = a.earlier_smaller;
+      })
 
   pub highest_among : (n : ℕ) → Among w (suc n) (highest_of w (suc n))
   unfolding highest_of

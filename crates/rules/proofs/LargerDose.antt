@@ -94,7 +94,7 @@ same_carbon :
     → carbon_sludge_in way flow x m u ≡ carbon_sludge_in way flow x n u
 unfolding carbon_sludge_in
 same_carbon Way.Bod flow x m n u e = refl
-same_carbon Way.Cod flow x m n u e = absurd (let z : ◌≡◌ {A = ℕ} 0 1 = cc in omega arith)
+same_carbon Way.Cod flow x m n u e = cc
 
 module _ (p : Plant) (x : Concentrations) (y : Candidate) (n : ℕ) (bod : p.way ≡ Way.Bod) where
   -- the reactor with any other carbon sludge
@@ -146,7 +146,7 @@ larger_dose_choice p r m n s a bod h k c d = go (accept (with_dose m p) r) refl 
   where
     go :
         (o : Acceptance) → accept (with_dose m p) r ≡ o → ChosenAccepted (with_dose m p) (Ok s) o → DesignAtMost s.total a
-    go (Err i) q e = absurd (let z : ◌≡◌ {A = ℕ} 0 1 = cc in omega arith)
+    go (Err i) q e = cc
     go (Ok x) q l =
         wider_choice (with_dose m p) (with_dose n p) x s a
         (record {

@@ -2,8 +2,11 @@
 pub mod Quotients
 pub mod SumLaws
 pub mod Filling
+pub mod RangeSearch
+pub mod FromFn
 pub mod Tests
 pub mod RangeFacts
+pub mod FigureBounds
 pub mod GridSums
 pub mod AcceptedData
 pub mod CubeRoot

@@ -11,6 +11,7 @@ use borrow.Author.Tests.{eqb-true}
 use lib.Dec.{T, leb, eqb, leb→le, le→leb}
 use lib.Ieee.Fits.{and_i, and_l, and_r}
 use Rattle.std.specs.Prelude.{Ok}
+use denote.Floats.{is_true}
 use Rattle.rules.specs.Rounding.{down}
 use Rattle.rules.specs.Sums.{sum_from}
 use Rattle.rules.specs.Limits.{most_lines}
@@ -59,12 +60,8 @@ valid_split split t =
     record {
       lines = (within_between 2 most_lines split.count).0 (and_l counted (positive && added) t);
       positive = and_l positive added rest;
-      whole = eqb-true (shares_to split split.count) 1000 (holds added (and_r positive added rest));
+      whole = eqb-true (shares_to split split.count) 1000 (is_true added (and_r positive added rest));
     }
-  where
-    holds : (b : Bool) → T b → b ≡ true
-    holds true t = refl
-    holds false t = absurd t
 
 module _ (split : Split) (valid : T (split_valid split)) where
   -- up to the last line at most the whole

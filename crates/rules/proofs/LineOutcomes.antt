@@ -2,18 +2,20 @@
 -- line's sheet there. Assumes nothing.
 use mathlib.Core.Logic.{inl, inr}
 use mathlib.Core.Path.{◌≡◌, refl, sym, ap, subst, ◌∙◌}
-use mathlib.Core.Bool.{Bool, true, false, ◌&&◌}
+use mathlib.Core.Bool.{Bool, true, ◌&&◌}
 use mathlib.Core.List.{◌∷◌}
 use Prim.Native.Nat.{ℕ, ◌+◌, ◌-◌, ◌<◌}
 use native.Mathlib.Omega.{arith}
 use lib.Dec.{T}
 use lib.Ieee.Fits.{and_l, and_r}
-use Rattle.std.specs.Prelude.{Ok, Err, Result}
+use Rattle.std.specs.Prelude.{Ok, Err}
+use denote.Floats.{is_true}
+use mathlib.Core.Bool.{and-true}
 use Rattle.rules.specs.PlantData.{within}
 use Rattle.rules.specs.Rules.{rule, verdict, all_kept}
 use Rattle.rules.specs.Accepting.{values_of, data_rules, accept_by}
 use Rattle.rules.specs.Answers.{answer_number, answer_sheet}
-use Rattle.rules.specs.Ranges.{Between, ConcentrationRanges}
+use Rattle.rules.specs.Ranges.{ConcentrationRanges}
 use Rattle.rules.specs.TwoColumns.{Removes}
 use Rattle.rules.specs.Lines.{split_valid, line_of, LineChosen, line_rules, accept_line, LineAccepted, LineAnswered}
 use Rattle.rules.specs.Works.{works_rules, accept_works, first_refused, works_sheets, works_by, WorksAccepted, WorksChosen}
@@ -60,7 +62,7 @@ line_outcome p r split number a h = go (accept_line p r split number) refl a h
     line = line_of p split (number - 1)
 
     go : (o : Acceptance) → accept_line p r split number ≡ o → (a : Answer) → LineAccepted line a o → LineOutcome p r split number (answer_number a) (answer_sheet a)
-    go (Err n) q (Ok s) e = absurd (let z : ◌≡◌ {A = ℕ} 0 1 = cc in omega arith)
+    go (Err n) q (Ok s) e = cc
     go (Err n) q (Err m) e =
         let same : n ≡ m = cc in
         inr (record { refusal = m; is_due = inl ((refused_broken (line_rules p r split number) (values_of p r) m).0 (q ∙ ap Err same)); numbered = refl; zeros = empty_zeros })
@@ -81,7 +83,7 @@ line_with_columns p r split number (Ok s) h = go (accept_line p r split number) 
     line = line_of p split (number - 1)
 
     go : (o : Acceptance) → accept_line p r split number ≡ o → LineAccepted line (Ok s) o → Removes line (values_of p r) s.fraction
-    go (Err n) q e = absurd (let z : ◌≡◌ {A = ℕ} 0 1 = cc in omega arith)
+    go (Err n) q e = cc
     go (Ok x) q c =
         let given = accepted_kept (line_rules p r split number) (values_of p r) x q in
         subst (λ (y : Concentrations). Removes line y s.fraction) (sym given.1) (line_columns line x s (designed_line line x s c))
@@ -90,11 +92,7 @@ line_with_columns p r split number (Ok s) h = go (accept_line p r split number) 
 accept_same : (p : Plant) (r : Readings) (split : Split) (number : ℕ) → within 1 split.count number ≡ true → accept_line p r split number ≡ accept_works p r split
 unfolding accept_line line_rules accept_works works_rules
 accept_same p r split number e =
-    rw e (ap (λ (b : Bool). accept_by (verdict (rule Refusal.Lines b ∷ data_rules p r)) (values_of p r)) (alone (split_valid split)))
-  where
-    alone : (b : Bool) → (b && true) ≡ b
-    alone true = refl
-    alone false = refl
+    rw e (ap (λ (b : Bool). accept_by (verdict (rule Refusal.Lines b ∷ data_rules p r)) (values_of p r)) (and-true (split_valid split)))
 
 -- In a works that has its sheets, the sheet of a line is that line's own answer.
 pub line_of_works :
@@ -110,20 +108,12 @@ line_of_works p r split w i a h below asked = go (accept_works p r split) refl h
     here = omega arith
 
     same : accept_line p r split (i + 1) ≡ accept_works p r split
-    same = accept_same p r split (i + 1) (within_true (record { least = omega arith; most = omega arith }))
-      where
-        within_true : Between 1 split.count (i + 1) → within 1 split.count (i + 1) ≡ true
-        within_true b = holds (within 1 split.count (i + 1)) ((within_between 1 split.count (i + 1)).1 b)
-          where
-            holds : (b : Bool) → T b → b ≡ true
-            holds true t = refl
-            holds false t = absurd t
-
-    no_refusal : (n : Refusal) → ◌≡◌ {A = Result Works Refusal} (Ok w) (Err n) → ⊥
-    no_refusal n e = let z : ◌≡◌ {A = ℕ} 0 1 = cc in omega arith
+    same =
+        accept_same p r split (i + 1)
+        (is_true (within 1 split.count (i + 1)) ((within_between 1 split.count (i + 1)).1 (record { least = omega arith; most = omega arith })))
 
     go : (o : Acceptance) → accept_works p r split ≡ o → WorksAccepted p split (Ok w) o → LineAccepted (line_of p split i) a o → a ≡ Ok (sheet_at w i)
-    go (Err n) q e c = absurd (no_refusal n e)
+    go (Err n) q e c = cc
     go (Ok x) q h c = lines (first_refused h.answers split.count) refl
       where
         lines : (v : Verdict) → first_refused h.answers split.count ≡ v → a ≡ Ok (sheet_at w i)
@@ -131,4 +121,4 @@ line_of_works p r split w i a h below asked = go (accept_works p r split) refl h
             line_once (line_of p split i) x a (h.answers i) c (h.each i below)
             ∙ (designed_answer (h.answers i) (all_designed h.answers split.count e i below)
             ∙ ap Ok (sym (sheet_of_line p r split (Ok w) x q h e i below)))
-        lines (Err k) e = absurd (no_refusal k (by_verdict p r split (Ok w) x q h (Err k) e))
+        lines (Err k) e = cc (by_verdict p r split (Ok w) x q h (Err k) e)

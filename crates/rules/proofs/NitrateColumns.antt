@@ -120,7 +120,7 @@ chosen_columns p r (Err n) h = tt
 chosen_columns p r (Ok s) h = go (accept p r) refl h
   where
     go : (o : Acceptance) → accept p r ≡ o → ChosenAccepted p (Ok s) o → TwoColumns p r (Ok s)
-    go (Err n) q e = absurd (let z : ◌≡◌ {A = ℕ} 0 1 = cc in omega arith)
+    go (Err n) q e = cc
     go (Ok x) q l =
         let given = accepted_none_due p r x q in
         (given.0, subst (λ (v : Concentrations). Removes p v s.fraction) (sym given.1) (two_columns p x (candidate_of s) l.allowed))

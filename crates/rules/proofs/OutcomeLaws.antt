@@ -10,6 +10,7 @@ use lib.Dec.{leb}
 use lib.ListN.{length}
 use borrow.Author.Tests.{leb-true, leb-false}
 use Rattle.std.specs.Prelude.{Result, Ok, Err}
+use Rattle.std.proofs.lemmas.Bool.{cond_both}
 use Rattle.rules.specs.Sums.{values_from}
 use Rattle.rules.specs.Rules.{verdict, after}
 use Rattle.rules.specs.Accepting.{values_of, data_rules, accept_by, accept}
@@ -55,7 +56,7 @@ unfolding answer_number answer_sheet
 chosen_outcome p r (Ok s) h = go (accept p r) refl h
   where
     go : (o : Acceptance) → accept p r ≡ o → ChosenAccepted p (Ok s) o → ChosenOutcome p r 0 s
-    go (Err n) q e = absurd (let z : ◌≡◌ {A = ℕ} 0 1 = cc in omega arith)
+    go (Err n) q e = cc
     go (Ok x) q l =
         let given = accepted_none_due p r x q in
         inl (record { numbered = refl; kept = given.0; least = subst (λ (v : Concentrations). Least p v (grid p) s) (sym given.1) l })
@@ -108,8 +109,8 @@ explained_outcome p r y e q = go (verdict (explanation_rules p r y)) refl e (q �
         → e ≡ explain_by v (candidate_explained p (values_of p r) y)
         → ExplainedOutcome p r y (answer_number e) (explanation_figures e)
     go (Ok u) k (Ok f) h = inl (record { numbered = refl; kept = (all_kept_verdict (explanation_rules p r y)).1 k; values = cc })
-    go (Ok u) k (Err n) h = absurd (let z : ◌≡◌ {A = ℕ} 0 1 = cc in omega arith)
-    go (Err m) k (Ok f) h = absurd (let z : ◌≡◌ {A = ℕ} 0 1 = cc in omega arith)
+    go (Ok u) k (Err n) h = cc
+    go (Err m) k (Ok f) h = cc
     go (Err m) k (Err n) h =
         let same : m ≡ n = cc in
         inr (record { refusal = n; is_due = (broken_verdict (explanation_rules p r y) n).1 (k ∙ ap Err same); numbered = refl; zeros = zeros 0 29 })
@@ -117,11 +118,9 @@ explained_outcome p r y e q = go (verdict (explanation_rules p r y)) refl e (q �
 -- writing
 pub writing_outcome : (a : Answer) (page : List ℕ) (w : Result ℕ Refusal) → w ≡ writing (listing a) page → WritingOutcome a page (answer_number w) (written_count w)
 unfolding writing answer_number written_count
-writing_outcome a page w e = rw e (go (leb (length (listing a)) (length page)) refl)
-  where
-    of : Bool → Result ℕ Refusal
-    of b = cond b (Ok (length (listing a))) (Err Refusal.ShortPage)
-
-    go : (b : Bool) → leb (length (listing a)) (length page) ≡ b → WritingOutcome a page (answer_number (of b)) (written_count (of b))
-    go true q = record { fits = λ h. (refl, refl); short = λ h. absurd (let l : length (listing a) ≤ length page = leb-true _ _ q in omega arith) }
-    go false q = record { fits = λ h. absurd (let l : length page < length (listing a) = leb-false _ _ q in omega arith); short = λ h. (refl, refl) }
+writing_outcome a page w e =
+    rw e
+    (cond_both (leb (length (listing a)) (length page)) (Ok (length (listing a))) (Err Refusal.ShortPage)
+    (λ (v : Result ℕ Refusal). WritingOutcome a page (answer_number v) (written_count v))
+    (λ q. record { fits = λ h. (refl, refl); short = λ h. absurd (let l : length (listing a) ≤ length page = leb-true _ _ q in omega arith) })
+    (λ q. record { fits = λ h. absurd (let l : length page < length (listing a) = leb-false _ _ q in omega arith); short = λ h. (refl, refl) }))

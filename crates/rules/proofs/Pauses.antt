@@ -2,7 +2,6 @@
 use mathlib.Core.Path.{◌≡◌, refl, ap, ◌∙◌}
 use mathlib.Core.Bool.{false}
 use Prim.Native.Nat.{ℕ}
-use native.Mathlib.Omega.{arith}
 use Rattle.std.specs.Prelude.{Ok, Err}
 use Rattle.rules.specs.Rules.{verdict}
 use Rattle.rules.specs.Accepting.{accept, values_of}
@@ -30,7 +29,7 @@ no_pause : (k : Process) (saturation fraction hourly : ℕ) → pauses k ≡ fal
 unfolding pauses transfer_of
 no_pause Process.PreAnoxic saturation fraction hourly e = refl
 no_pause Process.Simultaneous saturation fraction hourly e = refl
-no_pause Process.Intermittent saturation fraction hourly e = absurd (let z : ◌≡◌ {A = ℕ} 0 1 = cc in omega arith)
+no_pause Process.Intermittent saturation fraction hourly e = cc
 no_pause (Process.StepFeed steps) saturation fraction hourly e = refl
 
 same_sheet : (p : Plant) (x : Concentrations) (y : Candidate) → unpaused_sheet p (sheet_of p x y) ≡ sheet_without_pauses p x y

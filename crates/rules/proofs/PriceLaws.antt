@@ -1,15 +1,16 @@
 -- The price of the concrete: a cubic metre is charged in the first band that reaches it; a tariff that charges no metre more prices no
 -- sheet higher; an answer has one price; and the calls' numbers, sheets and prices are what is promised of them. Assumes nothing.
-use mathlib.Core.Logic.{◌⊎◌, inl, inr}
+use mathlib.Core.Logic.{inl, inr}
 use mathlib.Core.Path.{◌≡◌, refl, ap, sym, subst, ◌∙◌}
 use mathlib.Core.Bool.{Bool, true, false, not}
 use Prim.Native.Nat.{ℕ, zero, suc, ◌+◌, ◌-◌, ◌*◌, ◌≤◌, ◌<◌}
-use native.Mathlib.Nat.{eq-or-lt_of_le, mul-le-mul}
+use native.Mathlib.Nat.{mul-le-mul}
 use native.Mathlib.Omega.{arith}
 use borrow.Author.Tests.{leb-true, leb-false, lt-leb, le-leb}
 use lib.Dec.{T, leb, leb→le}
 use lib.Ieee.Fits.{and_l, and_r}
 use Rattle.std.specs.Prelude.{Result, Ok, Err}
+use borrow.Author.Count.{below_more}
 use Rattle.rules.specs.Rounding.{up}
 use Rattle.rules.specs.Sums.{sum_from}
 use Rattle.rules.specs.Limits.{most_bands, most_price, most_surcharge}
@@ -58,11 +59,7 @@ first_from t n k zero c before e = record { band = k; below = omega (arith, c); 
 first_from t n k (suc later) c before e = go (leb n (band_limit t k)) refl (first_from t n (k + 1) later)
   where
     passed : band_limit t k < n → (j : ℕ) → j < k + 1 → band_limit t j < n
-    passed h j l = at (eq-or-lt_of_le (omega (arith, l)))
-      where
-        at : (j ≡ k) ⊎ (j < k) → band_limit t j < n
-        at (inl same) = subst (λ (i : ℕ). band_limit t i < n) (sym same) h
-        at (inr less) = before j less
+    passed h = below_more (λ (j : ℕ). band_limit t j < n) k before h
 
     go :
         (b : Bool)
@@ -88,11 +85,10 @@ pub record ValidTariff (t : Tariff) : Type 0 where
 prices_at : (t : Tariff) (n : ℕ) → T (prices_kept t n) → (k : ℕ) → k < n → band_price t k ≤ most_price
 unfolding prices_kept
 prices_at t zero h k l = absurd (omega (arith, l))
-prices_at t (suc n) h k l = at (eq-or-lt_of_le (omega (arith, l))) (prices_at t n (and_l (prices_kept t n) _ h) k)
-  where
-    at : (k ≡ n) ⊎ (k < n) → (k < n → band_price t k ≤ most_price) → band_price t k ≤ most_price
-    at (inl same) rest = subst (λ (i : ℕ). band_price t i ≤ most_price) (sym same) (leb→le (band_price t n) most_price (and_r (prices_kept t n) _ h))
-    at (inr less) rest = rest less
+prices_at t (suc n) h k l =
+    below_more (λ (i : ℕ). band_price t i ≤ most_price) n (prices_at t n (and_l (prices_kept t n) _ h))
+    (leb→le (band_price t n) most_price (and_r (prices_kept t n) _ h)) k
+    (omega (arith, l))
 
 pub valid_tariff : (t : Tariff) → T (tariff_valid t) → ValidTariff t
 unfolding tariff_valid

@@ -67,10 +67,10 @@ plant_ranges p = (
   λ b. (between_all (plant_figures p) (listed p b), le→leb p.sludge_volume_index most_index b.index.most, b.consent),
 )
 
--- where the figures are in their ranges, whatever the consent, the daily flow is above 0
-pub flow_least : (p : Plant) → T (plant_in_range p) → 1 ≤ p.flow
+-- where the figures are in their ranges, whatever the consent, the daily flow is in its own
+pub flow_between : (p : Plant) → T (plant_in_range p) → Between 1 200_000 p.flow
 unfolding plant_in_range plant_figures figures_without_dose
-flow_least p t = (all_between (plant_figures p) t).1.0.least
+flow_between p t = (all_between (plant_figures p) t).1.0
 
 -- a candidate is on the grid
 pub record GridRanges (tank : TankFlow) (y : Candidate) : Type 0 where

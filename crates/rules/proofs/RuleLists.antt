@@ -1,22 +1,19 @@
 -- Laws of rules in order, each by one induction over the list: all kept is the verdict `Kept`, the first broken is the
 -- verdict `Broken`, and a list's parts are judged in turn. Assumes nothing.
 use mathlib.Core.Logic.{◌↔◌, ◌⊎◌, inl, inr}
-use mathlib.Core.Path.{◌≡◌, refl, sym, ap, subst, ◌∙◌}
+use mathlib.Core.Path.{◌≡◌, refl, sym, ap, ◌∙◌}
 use mathlib.Core.Bool.{Bool, true, false, cond, not, ◌&&◌, ◌||◌}
 use mathlib.Core.List.{List, [], ◌∷◌, ◌++◌}
 use Prim.Native.Nat.{ℕ}
-use native.Mathlib.Omega.{arith}
 use borrow.Author.Tests.{eq-eqb}
+use denote.Floats.{passes, is_true}
 use lib.Dec.{T, eqb}
 use Rattle.std.specs.Prelude.{Ok, Err}
+use Rattle.std.proofs.lemmas.Bool.{or_left, or_right}
 use Rattle.rules.specs.Rules.{Rule, all_kept, verdict, after, FirstBroken}
 use Rattle.rules.specs.Answers.{refusal_number}
 use Rattle.rules.specs.declared.Refusal.{Refusal}
 use Rattle.rules.specs.Results.{Verdict}
-
--- a verdict is not both
-pub kept_not_broken : (n : Refusal) → ◌≡◌ {A = Verdict} (Err n) (Ok tt) → ⊥
-kept_not_broken n e = let z : ◌≡◌ {A = ℕ} 0 1 = cc in omega arith
 
 pub all_kept_verdict : (l : List Rule) → T (all_kept l) ↔ (verdict l ≡ (Ok tt))
 all_kept_verdict [] = (λ t. refl, λ e. tt)
@@ -24,10 +21,10 @@ all_kept_verdict (r ∷ later) = go r.kept (all_kept_verdict later)
   where
     go : (b : Bool) → T (all_kept later) ↔ (verdict later ≡ (Ok tt)) → T (b && all_kept later) ↔ (cond b (verdict later) (Err r.refusal) ≡ (Ok tt))
     go true h = h
-    go false h = (λ t. absurd t, λ e. kept_not_broken r.refusal e)
+    go false h = (λ t. absurd t, λ e. cc)
 
 pub broken_verdict : (l : List Rule) (n : Refusal) → FirstBroken l n ↔ (verdict l ≡ Err n)
-broken_verdict [] n = (λ f. absurd f, λ e. kept_not_broken n (sym e))
+broken_verdict [] n = (λ f. absurd f, λ e. cc)
 broken_verdict (r ∷ later) n = go r.kept (broken_verdict later n)
   where
     go :
@@ -53,16 +50,8 @@ numbered k (r ∷ later) = eqb (refusal_number r.refusal) k || numbered k later
 -- the first broken is one of the list's
 pub first_broken_among : (l : List Rule) (n : Refusal) → FirstBroken l n → T (numbered (refusal_number n) l)
 first_broken_among [] n f = f
-first_broken_among (r ∷ later) n (inl f) = here (eqb (refusal_number r.refusal) (refusal_number n)) (eq-eqb _ _ (ap refusal_number f.1))
-  where
-    here : (b : Bool) → b ≡ true → T (b || numbered (refusal_number n) later)
-    here true e = tt
-    here false e = absurd (subst T (sym e) tt)
-first_broken_among (r ∷ later) n (inr f) = later_one (eqb (refusal_number r.refusal) (refusal_number n)) (first_broken_among later n f.1)
-  where
-    later_one : (b : Bool) → T (numbered (refusal_number n) later) → T (b || numbered (refusal_number n) later)
-    later_one true t = tt
-    later_one false t = t
+first_broken_among (r ∷ later) n (inl f) = passes _ (or_left (eqb (refusal_number r.refusal) (refusal_number n)) _ (eq-eqb _ _ (ap refusal_number f.1)))
+first_broken_among (r ∷ later) n (inr f) = passes _ (or_right (eqb (refusal_number r.refusal) (refusal_number n)) _ (is_true _ (first_broken_among later n f.1)))
 
 pub verdict_append : (a b : List Rule) → verdict (a ++ b) ≡ after (verdict a) (verdict b)
 verdict_append [] b = refl

@@ -1,13 +1,14 @@
 -- Laws of sums and lists over consecutive whole numbers, each by one induction. Assumes nothing.
 use mathlib.Core.Path.{◌≡◌, refl, sym, ap, ap₂, ◌∙◌}
-use mathlib.Core.Logic.{◌⊎◌, inl, inr}
-use mathlib.Core.List.{List}
+use mathlib.Core.List.{List, ◌∷◌, map}
 use Prim.Native.Nat.{ℕ, zero, suc, ◌+◌, ◌-◌, ◌*◌, ◌≤◌, ◌<◌}
-use native.Mathlib.Nat.{eq-or-lt_of_le}
 use native.Mathlib.Numerals.{add-one}
 use native.Mathlib.Omega.{arith}
+use borrow.Author.Count.{below_more}
 use lib.ListN.{length, get_or}
-use lib.Seq.{ext_get_or}
+use Rattle.std.specs.List.{range_with_len}
+use Rattle.std.proofs.lemmas.List.{get_or_past}
+use Rattle.std.proofs.lemmas.List.FromFn.{length-map-range_with_len, get_or-map-range_with_len, fill_by_all}
 use Rattle.rules.specs.Sums.{sum_from, values_from}
 
 -- one number more
@@ -80,45 +81,30 @@ sum_zero a n g e = sum_same a n g (λ i. 0) e ∙ (let none : sum_from a n (λ i
 pub zero_sum : (a n : ℕ) (g : ℕ → ℕ) → sum_from a n g ≡ 0 → (i : ℕ) → a ≤ i → i < a + n → g i ≡ 0
 unfolding sum_from
 zero_sum a zero g e i l m = absurd (omega arith)
-zero_sum a (suc n) g e i l m = go (eq-or-lt_of_le below) (λ less. zero_sum a n g (omega arith) i l less)
-  where
-    below : i ≤ a + n
-    below = omega arith
-
-    go : (i ≡ a + n) ⊎ (i < a + n) → (i < a + n → g i ≡ 0) → g i ≡ 0
-    go (inl same) before = ap g same ∙ omega arith
-    go (inr less) before = before less
+zero_sum a (suc n) g e i l m =
+    below_more (λ (j : ℕ). a ≤ j → g j ≡ 0) (a + n) (λ j m l. zero_sum a n g (omega arith) j l m) (λ l. omega arith) i (omega arith) l
 
 -- ---- the values in a list
 
-pub values_length : {A : Type 0} (a n : ℕ) (g : ℕ → A) → length (values_from a n g) ≡ n
+-- as the library has them
+values_mapped : {A : Type 0} (a n : ℕ) (g : ℕ → A) → values_from a n g ≡ map g (range_with_len a n)
 unfolding values_from
-values_length a zero g = refl
-values_length a (suc n) g = ap suc (values_length (a + 1) n g)
+values_mapped a zero g = refl
+values_mapped a (suc n) g = λ j. g a ∷ values_mapped (a + 1) n g j
+
+pub values_length : {A : Type 0} (a n : ℕ) (g : ℕ → A) → length (values_from a n g) ≡ n
+values_length a n g = rw values_mapped (length-map-range_with_len g a n)
 
 pub values_at : {A : Type 0} (d : A) (a n : ℕ) (g : ℕ → A) (i : ℕ) → i < n → get_or (values_from a n g) i d ≡ g (a + i)
-unfolding values_from
-values_at d a zero g i l = absurd (omega arith)
-values_at d a (suc n) g zero l = let e : a ≡ a + 0 = omega arith in ap g e
-values_at d a (suc n) g (suc i) l =
-    let e : a + 1 + i ≡ a + suc i = omega arith in
-    values_at d (a + 1) n g i (omega arith) ∙ ap g e
+values_at d a n g i l = rw values_mapped (get_or-map-range_with_len g a n i (a + i) d l refl)
 
 -- past them stands the default
 pub values_past : {A : Type 0} (d : A) (a n : ℕ) (g : ℕ → A) (i : ℕ) → n ≤ i → get_or (values_from a n g) i d ≡ d
-unfolding values_from
-values_past d a zero g i l = refl
-values_past d a (suc n) g zero l = absurd (omega arith)
-values_past d a (suc n) g (suc i) l = values_past d (a + 1) n g i (omega arith)
+values_past d a n g i l = get_or_past (values_from a n g) i d (omega (arith, values_length a n g))
 
 -- a list that holds the values is the list of them
 pub list_of_values : {A : Type 0} (d : A) (n : ℕ) (g : ℕ → A) (l : List A) → length l ≡ n → ((i : ℕ) → i < n → get_or l i d ≡ g i) → l ≡ values_from 0 n g
-list_of_values d n g l size holds =
-    ext_get_or d l (values_from 0 n g) (size ∙ sym (values_length 0 n g))
-    (λ i m.
-    let here : i < n = omega (arith, size) in
-    let e : i ≡ 0 + i = omega arith in
-    holds i here ∙ (ap g e ∙ sym (values_at d 0 n g i here)))
+list_of_values d n g l size holds = rw values_mapped (fill_by_all g l n d size holds)
 
 -- the same values, the same list
 pub values_same : {A : Type 0} (d : A) (n : ℕ) (g h : ℕ → A) → ((k : ℕ) → k < n → g k ≡ h k) → values_from 0 n g ≡ values_from 0 n h

@@ -1,15 +1,14 @@
 -- Laws of a works: it is determined by its lines' answers, and these by demand 3; its first refused line decides; reactors and settling
 -- tanks added up apart make its total; and what the calls promise of it. Assumes nothing.
-use mathlib.Core.Logic.{◌⊎◌, inl, inr}
 use mathlib.Core.Path.{◌≡◌, refl, sym, ap, subst, ◌∙◌}
 use mathlib.Core.Bool.{Bool, true, false, cond}
-use Prim.Native.Nat.{ℕ, zero, suc, ◌+◌, ◌-◌, ◌≤◌, ◌<◌}
-use native.Mathlib.Nat.{eq-or-lt_of_le}
+use Prim.Native.Nat.{ℕ, zero, suc, ◌+◌, ◌-◌, ◌<◌}
 use native.Mathlib.Omega.{arith}
 use borrow.Author.Tests.{ltb-true}
 use lib.Dec.{ltb}
 use lib.ListN.{length}
 use Rattle.std.specs.Prelude.{Ok, Err, Result}
+use borrow.Author.Count.{below_more}
 use Rattle.rules.specs.Sums.{sum_from}
 use Rattle.rules.specs.Limits.{most_lines}
 use Rattle.rules.specs.Rules.{after}
@@ -102,19 +101,14 @@ none_refused f (suc n) e =
 
 kept_parts : (v w : Verdict) → after v w ≡ (Ok tt) → (v ≡ (Ok tt)) × (w ≡ (Ok tt))
 kept_parts (Ok tt) w e = (refl, e)
-kept_parts (Err n) w e = absurd (let z : ◌≡◌ {A = ℕ} 0 1 = cc in omega arith)
+kept_parts (Err n) w e = cc
 
 pub all_designed : (f : ℕ → Answer) (n : ℕ) → first_refused f n ≡ (Ok tt) → (i : ℕ) → i < n → answer_verdict (f i) ≡ (Ok tt)
 unfolding first_refused
 all_designed f zero e i h = absurd (omega arith)
 all_designed f (suc n) e i h =
     let parts = kept_parts (first_refused f n) (answer_verdict (f n)) e in
-    let at_most : i ≤ n = omega arith in
-    go parts.1 (λ less. all_designed f n parts.0 i less) (eq-or-lt_of_le at_most)
-  where
-    go : answer_verdict (f n) ≡ (Ok tt) → (i < n → answer_verdict (f i) ≡ (Ok tt)) → (i ≡ n) ⊎ (i < n) → answer_verdict (f i) ≡ (Ok tt)
-    go last before (inl same) = ap (λ (k : ℕ). answer_verdict (f k)) same ∙ last
-    go last before (inr less) = before less
+    below_more (λ (k : ℕ). answer_verdict (f k) ≡ Ok tt) n (all_designed f n parts.0) parts.1 i (omega arith)
 
 -- later lines change nothing of a refusal
 later_lines : (f : ℕ → Answer) (k : Refusal) (m n : ℕ) → first_refused f m ≡ Err k → first_refused f (m + n) ≡ Err k
@@ -154,7 +148,7 @@ line_total line x (Ok s) c = go (line_positive line) c
   where
     go : (positive : Bool) → LineChosenBy positive line x (Ok s) → s.total ≡ s.reactor + s.settling
     go true l = sheet_total line x s l.figures
-    go false e = absurd (let z : ◌≡◌ {A = ℕ} 0 1 = cc in omega arith)
+    go false e = cc
 
 abbrev Adds : Result Works Refusal → Type 0
 Adds w = (works_sheets w).sums.total ≡ (works_sheets w).sums.reactor + (works_sheets w).sums.settling

@@ -64,13 +64,13 @@ designed_line line x s c = go (line_positive line) refl c
   where
     go : (b : Bool) → line_positive line ≡ b → LineChosenBy b line x (Ok s) → LineDesigned line x s
     go true e l = record { positive = subst T (sym e) tt; least = l }
-    go false e h = absurd (let z : ◌≡◌ {A = ℕ} 0 1 = cc in omega arith)
+    go false e h = cc
 
 -- the same of an answer that is none refused
 kept_line : (line : Plant) (x : Concentrations) (a : Answer) → answer_verdict a ≡ (Ok tt) → LineChosen line x a → LineDesigned line x (answer_sheet a)
 unfolding answer_verdict answer_sheet
 kept_line line x (Ok s) e c = designed_line line x s c
-kept_line line x (Err n) e c = absurd (let z : ◌≡◌ {A = ℕ} 0 1 = cc in omega arith)
+kept_line line x (Err n) e c = cc
 
 -- where lines are refused, there is a first of them
 pub record FirstAt (f : ℕ → Answer) (n : ℕ) (k : Refusal) : Type 0 where
@@ -81,12 +81,12 @@ pub record FirstAt (f : ℕ → Answer) (n : ℕ) (k : Refusal) : Type 0 where
 
 refused_answer : (a : Answer) (k : Refusal) → answer_verdict a ≡ Err k → a ≡ Err k
 unfolding answer_verdict
-refused_answer (Ok s) k e = absurd (let z : ◌≡◌ {A = ℕ} 0 1 = cc in omega arith)
+refused_answer (Ok s) k e = cc
 refused_answer (Err n) k e = cc
 
 pub first_at : (f : ℕ → Answer) (n : ℕ) (k : Refusal) → first_refused f n ≡ Err k → FirstAt f n k
 unfolding first_refused
-first_at f zero k e = absurd (let z : ◌≡◌ {A = ℕ} 0 1 = cc in omega arith)
+first_at f zero k e = cc
 first_at f (suc n) k e = go (first_refused f n) refl e (λ h. first_at f n k h)
   where
     go :
@@ -145,7 +145,7 @@ works_zeros n =
 pub designed_answer : (a : Answer) → answer_verdict a ≡ (Ok tt) → a ≡ Ok (answer_sheet a)
 unfolding answer_verdict answer_sheet
 designed_answer (Ok s) e = refl
-designed_answer (Err n) e = absurd (let z : ◌≡◌ {A = ℕ} 0 1 = cc in omega arith)
+designed_answer (Err n) e = cc
 
 -- ---- the promises
 
@@ -231,9 +231,6 @@ unfolding works_sheets works_by
 works_columns p r split (Err n) h = tt
 works_columns p r split (Ok w) h = go (accept_works p r split) refl h
   where
-    no_refusal : (n : Refusal) → ◌≡◌ {A = Result Works Refusal} (Ok w) (Err n) → ⊥
-    no_refusal n e = let z : ◌≡◌ {A = ℕ} 0 1 = cc in omega arith
-
     go :
         (o : Acceptance)
         → accept_works p r split ≡ o
@@ -241,9 +238,9 @@ works_columns p r split (Ok w) h = go (accept_works p r split) refl h
         → (i : ℕ)
         → i < split.count
         → Removes (line_of p split i) (values_of p r) (sheet_at w i).fraction
-    go (Err n) q e i l = absurd (no_refusal n e)
+    go (Err n) q e i l = cc
     go (Ok x) q h i l = lines (first_refused h.answers split.count) refl
       where
         lines : (v : Verdict) → first_refused h.answers split.count ≡ v → Removes (line_of p split i) (values_of p r) (sheet_at w i).fraction
         lines (Ok u) e = line_columns (line_of p split i) (values_of p r) (sheet_at w i) (line_designed p r split (Ok w) x q h e i l)
-        lines (Err k) e = absurd (no_refusal k (by_verdict p r split (Ok w) x q h (Err k) e))
+        lines (Err k) e = cc (by_verdict p r split (Ok w) x q h (Err k) e)

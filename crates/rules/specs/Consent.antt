@@ -60,17 +60,16 @@ every test (term ∷ later) = test term && every test later
 unfoldable pub consent_valid : Consent → Bool
 consent_valid c = leb c.count most_terms && every term_valid (terms_of c)
 
--- the lower of a target and of what the other terms have in force
-abbrev pub lower_of : ℕ → Result (Option ℕ) Refusal → Result (Option ℕ) Refusal
-lower_of target (Ok (Some n)) = Ok (Some (min target n))
-lower_of target (Ok None) = Ok (Some target)
-lower_of target (Err n) = Err n
+-- the lower of a target and of what the other terms have in force, if anything
+abbrev pub lower_of : Option ℕ → ℕ → Option ℕ
+lower_of (Some n) target = Some (min target n)
+lower_of None target = Some target
 
--- the lowest target in force on a day, or that no term runs
-abbrev pub lowest_target : Date → List Term → Result (Option ℕ) Refusal
-lowest_target d [] = (Ok None)
-lowest_target d (term ∷ later) = cond (in_force term d) (lower_of term.nitrate_target (lowest_target d later)) (lowest_target d later)
+-- the lowest target in force on a day, or none where no term runs
+abbrev pub lowest_target : Date → List Term → Option ℕ
+lowest_target d [] = None
+lowest_target d (term ∷ later) = cond (in_force term d) (lower_of (lowest_target d later) term.nitrate_target) (lowest_target d later)
 
 -- what the second call answers for any terms and date: 14 where they or the date are invalid
 unfoldable pub target_on : Consent → Date → Result (Option ℕ) Refusal
-target_on c d = cond (consent_valid c && date_valid d) (lowest_target d (terms_of c)) (Err Refusal.Terms)
+target_on c d = cond (consent_valid c && date_valid d) (Ok (lowest_target d (terms_of c))) (Err Refusal.Terms)

@@ -2,13 +2,11 @@
 -- and of the grid are the tests of 1, 17, 14 and 6, no more and no less (proofs/RangeFacts.antt); accepted concentrations are
 -- in theirs (proofs/AcceptedData.antt). Assumes nothing.
 use Rattle.std.specs.Prelude.{ℕ, ◌≤◌, T}
-use Rattle.rules.specs.Limits.{least_temperature, least_term_temperature, most_temperature, least_index, most_index, least_nitrate_target, most_nitrate_target, least_fraction, most_fraction, least_ratio, most_ratio, least_time, most_time, most_age, most_nitrogen, most_removes, most_dose, most_removed_by_dose, most_sludge, most_mass, least_solids, most_solids, most_sludge_volume, most_reactor, most_surface, least_depth, most_depth, most_settling_volume, most_figure}
+use Rattle.rules.specs.Limits.{least_temperature, most_temperature, least_index, most_index, least_nitrate_target, most_nitrate_target, least_fraction, most_fraction, least_ratio, most_ratio, least_time, most_time, most_dose, most_reactor, most_settling_volume, most_figure}
 use Rattle.rules.specs.Consent.{consent_valid}
 use Rattle.rules.specs.declared.Plant.{Plant}
 use Rattle.rules.specs.declared.Concentrations.{Concentrations}
 use Rattle.rules.specs.declared.Candidate.{Candidate}
-use Rattle.rules.specs.declared.Reactor.{Reactor}
-use Rattle.rules.specs.declared.Settling.{Settling}
 use Rattle.rules.specs.declared.Sheet.{Sheet}
 
 -- n lies in the range low..high, both ends included
@@ -16,13 +14,10 @@ pub record Between (low high n : ℕ) : Type 0 where
   pub least : low ≤ n
   pub most : n ≤ high
 
--- a temperature of the plant data; one of a term of the consent; a sludge volume index; a fraction, a return ratio of either
+-- a temperature of the plant data; a sludge volume index; a fraction, a return ratio of either
 -- flow and a thickening time of the grid
 abbrev pub Temperature : ℕ → Type 0
 Temperature n = Between least_temperature most_temperature n
-
-abbrev pub TermTemperature : ℕ → Type 0
-TermTemperature n = Between least_term_temperature most_temperature n
 
 abbrev pub Index : ℕ → Type 0
 Index n = Between least_index most_index n
@@ -67,25 +62,6 @@ pub record OnGrid (y : Candidate) : Type 0 where
   pub fraction : GridFraction y.fraction
   pub ratio : GridRatio y.return_ratio
   pub time : GridTime y.thickening
-
--- limits of a reactor's figures for accepted data and a fraction of the grid: round numbers that the arithmetic needs
-pub record ReactorBounds (r : Reactor) : Type 0 where
-  pub fraction : GridFraction r.fraction
-  pub age : Between 1 most_age r.age
-  pub nitrified : r.nitrified ≤ most_nitrogen
-  pub denitrified : r.denitrified ≤ most_nitrogen
-  pub removes : r.removes ≤ most_removes
-  pub by_dose : r.removed_by_dose ≤ most_removed_by_dose
-  pub sludge : r.sludge ≤ most_sludge
-  pub mass : r.mass ≤ most_mass
-
--- limits of a settling tank's figures for accepted data, a return ratio and a thickening time of the grid
-pub record SettlingBounds (s : Settling) : Type 0 where
-  pub solids : Between least_solids most_solids s.solids
-  pub sludge_volume : Between 1 most_sludge_volume s.sludge_volume
-  pub surface : Between 1 most_surface s.surface
-  pub depth : Between least_depth most_depth s.depth
-  pub volume : Between 1 most_settling_volume s.volume
 
 -- limits of the figures of a sheet that a works adds up
 pub record SheetBounds (s : Sheet) : Type 0 where

@@ -1,5 +1,5 @@
-// The kinds of a plant by their codes. Each says its own codes: what is alike in the six is no more than `match`, and the language
-// takes no macro of our own that writes an `impl`.
+// The kinds of a plant by their codes. Each says its own codes: what is alike in the six is no more than `match`, and the gate takes
+// no `impl` that a macro of our own writes.
 ghost use Rattle.std.specs.Prelude.{◌≤◌, OkIff};
 ghost use Rattle.rules.specs.Kinds.{last_process, process_of, last_precipitant, precipitant_of, last_tank_flow, tank_flow_of};
 ghost use Rattle.rules.specs.Kinds.{last_removal, removal_of, last_primary_settling, primary_settling_of, last_way, way_of};

@@ -1,11 +1,21 @@
-// The types of document 01: plant data, lab readings, candidates, sheets and answers. The definitions over them are
-// in specs/.
+// The types of documents 01 and 02: plant data, lab readings, candidates, sheets and answers. The definitions over them are
+// in specs/. A list is an array, with a count beside it where it may be shorter: the library for C has no heap.
 #![tactic(auto)]
 
 mod accepted;
+mod bounded;
+mod grid;
 mod kinds;
 
 pub use accepted::Accepted;
+pub use bounded::{
+    BottomSludge, Bounded, CarbonOxygen, CarbonSludge, CorrectedAge, DailyFlow, DailySludge,
+    DecayFactor, DilutedVolume, DoseRemoval, GridFraction, GridRatio, GridTime, HourlyOxygen,
+    MixedSolids, NitrificationOxygen, Nitrogen, OverflowRate, OwnRemoval, PhosphorusSludge,
+    ReactorSolids, ReturnSludge, SafetyFactor, SettlingDepth, SettlingSurface, SettlingVolume,
+    SludgeAge, SludgeIndex, SludgeMass, Temperature, ThickeningRoot,
+};
+pub use grid::GridCandidate;
 pub use kinds::UnknownKind;
 
 // The ends of the grid, and the figures' ends that the code names in several places.
@@ -185,7 +195,8 @@ pub struct Readings {
     pub phosphorus: Reading,
 }
 
-// The accepted results of the readings, mg/m3: C, COD, X, N and P.
+// The accepted results of the readings, mg/m3: C, COD, X, N and P. No function is of readings and results alike, so that they have no
+// type in common.
 #[derive(Clone, Copy)]
 pub struct Concentrations {
     pub bod: u64,
@@ -208,36 +219,36 @@ pub struct Candidate {
 #[derive(Clone, Copy)]
 pub struct Reactor {
     // f, thousandths
-    pub fraction: u64,
+    pub fraction: GridFraction,
     // t, thousandths of a day
-    pub age: u64,
+    pub age: SludgeAge,
     // W, nitrogen to nitrify, mg/m3
-    pub nitrified: u64,
+    pub nitrified: Nitrogen,
     // D, nitrate to denitrify, mg/m3
-    pub denitrified: u64,
+    pub denitrified: Nitrogen,
     // K × C, thousandths of the nitrate that the tank removes with its own carbon, mg/m3; in the way by COD what stands for it
-    pub removes: u64,
+    pub removes: OwnRemoval,
     // nitrate that the dose removes, mg/m3
-    pub removed_by_dose: u64,
+    pub removed_by_dose: DoseRemoval,
     // S, g/d
-    pub sludge: u64,
+    pub sludge: DailySludge,
     // M, kg
-    pub mass: u64,
+    pub mass: SludgeMass,
 }
 
 // The figures that depend on the return ratio and the thickening time alone.
 #[derive(Clone, Copy)]
 pub struct Settling {
     // E, g/m3
-    pub solids: u64,
+    pub solids: MixedSolids,
     // V, diluted sludge volume, l/m3
-    pub sludge_volume: u64,
+    pub sludge_volume: DilutedVolume,
     // A, m2
-    pub surface: u64,
+    pub surface: SettlingSurface,
     // H, mm
-    pub depth: u64,
+    pub depth: SettlingDepth,
     // m3
-    pub volume: u64,
+    pub volume: SettlingVolume,
 }
 
 // The figures of aeration and recirculation.

@@ -5,8 +5,10 @@ use native.Mathlib.Nat.{max_comm}
 use Prim.Native.Nat.{ℕ, ◌+◌, ◌-◌, ◌*◌, ◌≤◌, max}
 use native.Mathlib.Omega.{arith}
 use Rattle.rules.specs.Rounding.{up}
-use Rattle.rules.specs.Limits.{least_bottom, most_bottom, least_solids, most_solids, least_depth}
-use Rattle.rules.specs.Ranges.{Between, Index, GridRatio, GridTime, PlantRanges, SettlingBounds}
+use Rattle.rules.specs.Limits.{least_solids, least_depth}
+use Rattle.rules.proofs.FigureBounds.{least_bottom, most_bottom, most_solids}
+use Rattle.rules.specs.Ranges.{Between, GridRatio, GridTime, PlantRanges}
+use Rattle.rules.proofs.FigureBounds.{SettlingBounds}
 use Rattle.rules.specs.SettlingSteps.{thickening_root, bottom_sludge, return_share, return_sludge, mixed_solids, diluted_volume, surface_overflow_rate, settling_surface, settling_depth, settling_volume, settling_of}
 use Rattle.rules.specs.declared.Plant.{Plant}
 use Rattle.rules.specs.declared.Settling.{Settling}
@@ -27,16 +29,8 @@ settling_bounds_lem p ratio thickening g r h =
     let diluted = diluted_limits mixed g.index (solids_index e b index half (bottom_index index (root_limits h))) in
     let rate = rate_limits p.tank diluted in
     let surface = surface_limits g.wet rate in
-    let depth = depth_limits (record { overflow = rate; returned = r; diluted = diluted; mixed = mixed; time = h; settled = settled; half = half }) in
+    let depth = depth_limits e rate r diluted h settled half in
     record { solids = mixed; sludge_volume = diluted; surface = surface; depth = depth; volume = volume_limits surface depth }
-
--- a bottom sludge's limits, and those of its product with the index, by its definition
-pub thickened_limits :
-    {index time bottom : ℕ} →
-    Index index × GridTime time →
-    bottom ≡ bottom_sludge (thickening_root time) index →
-    Between least_bottom most_bottom bottom × (bottom * index ≤ 1_357_200)
-thickened_limits {index} g e = rw e (bottom_limits (root_limits g.1) g.0, bottom_index index (root_limits g.1))
 
 -- the tank's figures, each from those before it, are the definition's
 pub tank_figures :

@@ -1,22 +1,18 @@
 -- Limits of each figure of the settling tank, from those of the figures before it. A quotient's limits go through the
 -- rounding laws, a product's through its factors'. Assumes nothing.
-use mathlib.Core.Path.{◌≡◌}
+use mathlib.Core.Path.{◌≡◌, refl}
 use Prim.Native.Nat.{ℕ, ◌+◌, ◌-◌, ◌*◌, ◌≤◌, ◌<◌}
 use native.Mathlib.Nat.{mul-le-mul, mul-le-mul_left, mul-le-mul_right, le_of_mul-le-mul_left, div-mul-le_self}
 use native.Mathlib.Omega.{arith}
 use Rattle.rules.specs.Rounding.{down, up}
-use Rattle.rules.specs.Limits.{least_bottom, most_bottom, least_returned, least_solids, most_solids}
+use Rattle.rules.specs.Limits.{least_solids}
+use Rattle.rules.proofs.FigureBounds.{least_returned, least_bottom, most_bottom, most_solids}
 use Rattle.rules.specs.Ranges.{Between, Index}
 use Rattle.rules.specs.SettlingSteps.{cube_root, thickening_root, bottom_sludge, return_share, return_sludge, mixed_solids, diluted_volume, volume_loading, largest_overflow_rate, surface_overflow_rate, settling_surface, settling_depth, settling_volume}
 use Rattle.rules.specs.declared.Removal.{Removal}
 use Rattle.rules.specs.declared.TankFlow.{TankFlow}
 use Rattle.rules.proofs.Quotients.{le_down, up_le}
-use Rattle.settling.specs.DepthRanges.{DepthRanges}
 use Rattle.rules.proofs.CubeRoot.{cube_lt, cube_root_lem}
-
--- a value with its limits, from those of what it equals
-pub known : {x y low high : ℕ} → x ≡ y → Between low high y → (x ≡ y) × Between low high x
-known e b = (e, record { least = omega arith; most = omega arith })
 
 -- a "down" times its divisor is at most the dividend
 pub down_mul : (a d : ℕ) → down a d * d ≤ a
@@ -102,38 +98,52 @@ pub surface_limits : {wet rate : ℕ} → Between 1 50_000 wet → Between 720 2
 unfolding settling_surface
 surface_limits {wet} {rate} w q = up_limits (1000 * wet) rate 70_000 (omega arith) (omega arith) (omega arith)
 
-module _ {rate ratio volume solids thickening bottom : ℕ} (g : DepthRanges rate ratio volume solids thickening bottom) where
-  sum : 100 + ratio ≤ 200
-  sum = omega arith
+-- E · q · (100 + r) · h, with E of at most half a bottom sludge
+pub thickening_product :
+    {rate ratio thickening : ℕ} (solids bottom : ℕ) →
+    Between 720 2_000 rate →
+    Between 30 100 ratio →
+    Between 20 25 thickening →
+    2 * solids ≤ bottom →
+    solids * rate * (100 + ratio) * thickening ≤ 5_000 * (1000 * bottom)
+thickening_product {rate} {ratio} solids bottom q r h half =
+    let sum : 100 + ratio ≤ 200 = omega arith in
+    omega (arith, mul-le-mul (mul-le-mul (mul-le-mul_left solids q.most) sum) h.most)
 
-  -- q · (100 + r)
-  pub flow_product : rate * (100 + ratio) ≤ 400_000
-  flow_product = omega (arith, mul-le-mul g.overflow.most sum)
+-- the depth before it is raised, by the limits of its parts
+pub depth_sum :
+    {rate ratio volume thickening bottom separation loading storage thickened : ℕ} (solids : ℕ) →
+    Between 720 2_000 rate →
+    Between 30 100 ratio →
+    Between 1 679 volume →
+    Between 20 25 thickening →
+    Between least_bottom most_bottom bottom →
+    2 * solids ≤ bottom →
+    separation ≡ up (5 * rate * (100 + ratio)) (1000 - volume) →
+    loading ≡ up (rate * volume) 1000 →
+    storage ≡ up (9 * loading * (100 + ratio)) 1000 →
+    thickened ≡ up (solids * rate * (100 + ratio) * thickening) (1000 * bottom) →
+    500 + separation + storage + thickened ≤ 20_000
+depth_sum {rate} {ratio} {volume} {thickening} {bottom} {separation} {loading} {storage} {thickened} solids q r v h b half es el eg et =
+    let sum : 100 + ratio ≤ 200 = omega arith in
+    let separated : separation ≤ 6_300 =
+    rw es ((up_le (5 * rate * (100 + ratio)) (1000 - volume) 6_300 (omega arith)).1 (omega (arith, mul-le-mul q.most sum))) in
+    let loaded : loading ≤ 1_358 = omega (arith, mul-le-mul q.most v.most) in
+    let thick : thickened ≤ 5_000 =
+    rw et ((up_le (solids * rate * (100 + ratio) * thickening) (1000 * bottom) 5_000 (omega arith)).1 (thickening_product solids bottom q r h half)) in
+    omega (arith, mul-le-mul loaded sum)
 
-  pub separation_most : up (5 * rate * (100 + ratio)) (1000 - volume) ≤ 6_300
-  separation_most = (up_le (5 * rate * (100 + ratio)) (1000 - volume) 6_300 (omega arith)).1 (omega (arith, flow_product))
-
-  -- q · V
-  pub loading_product : rate * volume ≤ 1_358_000
-  loading_product = omega (arith, mul-le-mul g.overflow.most g.diluted.most)
-
-  -- what is rounded for the storage, x being q · V rounded
-  pub storage_product : (x : ℕ) → x ≤ 1_358 → 9 * x * (100 + ratio) ≤ 2_444_400
-  storage_product x h = omega (arith, mul-le-mul h sum)
-
-  -- E · q · (100 + r) · h, with E at most half of B
-  pub thickening_product : solids * rate * (100 + ratio) * thickening ≤ 5_000 * (1000 * bottom)
-  thickening_product = omega (arith, mul-le-mul (mul-le-mul (mul-le-mul_left solids g.overflow.most) sum) g.time.most)
-
-  pub thickening_most : up (solids * rate * (100 + ratio) * thickening) (1000 * bottom) ≤ 5_000
-  thickening_most = (up_le (solids * rate * (100 + ratio) * thickening) (1000 * bottom) 5_000 (omega arith)).1 thickening_product
-
-  pub storage_most : up (9 * up (rate * volume) 1000 * (100 + ratio)) 1000 ≤ 2_445
-  storage_most = omega (arith, storage_product (up (rate * volume) 1000) (omega (arith, loading_product)))
-
-  pub depth_limits : Between 3_000 20_000 (settling_depth rate ratio volume solids thickening bottom)
-  unfolding settling_depth
-  depth_limits = omega (arith, separation_most, storage_most, thickening_most)
+pub depth_limits :
+    {rate ratio volume thickening bottom : ℕ} (solids : ℕ) →
+    Between 720 2_000 rate →
+    Between 30 100 ratio →
+    Between 1 679 volume →
+    Between 20 25 thickening →
+    Between least_bottom most_bottom bottom →
+    2 * solids ≤ bottom →
+    Between 3_000 20_000 (settling_depth rate ratio volume solids thickening bottom)
+unfolding settling_depth
+depth_limits solids q r v h b half = omega (arith, depth_sum solids q r v h b half refl refl refl refl)
 
 pub volume_limits : {surface depth : ℕ} → Between 1 70_000 surface → Between 3_000 20_000 depth → Between 1 1_400_000 (settling_volume surface depth)
 unfolding settling_volume

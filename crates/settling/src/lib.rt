@@ -2,16 +2,18 @@
 #![tactic(auto)]
 
 ghost use Rattle.std.specs.Prelude.{◌≡◌, ◌*◌, ◌≤◌, ◌<◌};
-ghost use Rattle.rules.specs.Limits.{least_bottom, most_bottom, least_returned, least_solids, most_solids, most_sludge_volume, most_surface, least_depth, most_depth, most_settling_volume};
-ghost use Rattle.rules.specs.Ranges.{Between, Index, GridRatio, GridTime};
+ghost use Rattle.rules.specs.Ranges.{Between};
 ghost use Rattle.rules.specs.SettlingSteps.{cube_root, thickening_root, return_share, return_sludge, mixed_solids, diluted_volume, solids_kept, volume_loading, largest_overflow_rate, surface_overflow_rate, settling_surface, settling_depth, settling_volume};
 ghost use Rattle.rules.specs.Rules.{verdict};
 ghost use Rattle.rules.specs.Examining.{tank_rules};
-ghost use Rattle.settling.specs.DepthRanges.{DepthRanges};
 
 mod thickened;
 
-use rules::{Plant, Refusal, Removal, Settling, TankFlow};
+use rules::{
+    BottomSludge, DilutedVolume, GridRatio, GridTime, MixedSolids, OverflowRate, Plant, Refusal,
+    Removal, ReturnSludge, Settling, SettlingDepth, SettlingSurface, SettlingVolume, SludgeIndex,
+    TankFlow, ThickeningRoot,
+};
 pub use thickened::Thickened;
 
 // The largest whole number whose cube is at most n, for a root below 16,384. It is at least `low` and below `high`; this span
@@ -41,11 +43,10 @@ fn cube_root(n: u64) -> u64
 
 // c, the root that the bottom sludge rests on, ten-thousandths
 #[tactic(auto, using(crate::proofs::Limits::root_limits), unfolding(rules::specs::SettlingSteps::thickening_root))]
-fn thickening_root(thickening: u64) -> u64
-    requires { GridTime thickening }
-    ensures { (result ≡ thickening_root thickening) × Between 12_599 13_572 result }
+fn thickening_root(thickening: GridTime) -> ThickeningRoot
+    ensures { result ≡ thickening_root thickening }
 {
-    cube_root(thickening * 100_000_000_000)
+    ThickeningRoot::new(cube_root(thickening.get() * 100_000_000_000))
 }
 
 // w, the return sludge's share of the bottom sludge, tenths
@@ -62,29 +63,27 @@ fn return_share(removal: Removal) -> u64
 
 // R, return sludge, g/m3
 #[tactic(auto, using(crate::proofs::Limits::returned_limits), unfolding(rules::specs::SettlingSteps::return_sludge))]
-fn return_sludge(removal: Removal, bottom: u64) -> u64
-    requires { Between least_bottom most_bottom bottom }
-    ensures { (result ≡ return_sludge (return_share removal) bottom) × Between least_returned most_bottom result × (result ≤ bottom) }
+fn return_sludge(removal: Removal, bottom: BottomSludge) -> ReturnSludge
+    ensures { (result ≡ return_sludge (return_share removal) bottom) × (result ≤ bottom) }
 {
-    return_share(removal) * bottom / 10
+    ReturnSludge::new(return_share(removal) * bottom.get() / 10)
 }
 
 // E, solids in the aeration tank, g/m3: at most half the return sludge's.
-#[tactic(auto, using(crate::proofs::Limits::mixed_limits, crate::proofs::Limits::mixed_half), unfolding(rules::specs::SettlingSteps::mixed_solids))]
-fn mixed_solids(returned: u64, ratio: u64) -> u64
-    requires { Between least_returned most_bottom returned × GridRatio ratio }
-    ensures { (result ≡ mixed_solids returned ratio) × Between least_solids most_solids result × (2 * result ≤ returned) }
+fn mixed_solids(returned: ReturnSludge, ratio: GridRatio) -> MixedSolids
+    ensures { (result ≡ mixed_solids returned ratio) × (2 * result ≤ returned) }
 {
-    ratio * returned / (100 + ratio)
+    let ratio = ratio.get();
+    MixedSolids::new(ratio * returned.get() / (100 + ratio))
 }
 
 // V, diluted sludge volume, l/m3
 #[tactic(auto, using(crate::proofs::Limits::diluted_limits), unfolding(rules::specs::SettlingSteps::diluted_volume))]
-fn diluted_volume(solids: u64, index: u64) -> u64
-    requires { Between least_solids most_solids solids × Index index × (solids * index ≤ 678_600) }
-    ensures { (result ≡ diluted_volume solids index) × Between 1 most_sludge_volume result }
+fn diluted_volume(solids: MixedSolids, index: SludgeIndex) -> DilutedVolume
+    requires { solids * index ≤ 678_600 }
+    ensures { result ≡ diluted_volume solids index }
 {
-    rounding::round_up(solids * index, 1000)
+    DilutedVolume::new(rounding::round_up(solids.get() * index.get(), 1000))
 }
 
 // s, sludge volume surface loading rate, l/(m2 h)
@@ -110,67 +109,72 @@ fn largest_overflow_rate(tank: TankFlow) -> u64
 }
 
 // q, surface overflow rate, mm/h
-#[tactic(auto, using(crate::proofs::Limits::rate_limits), unfolding(rules::specs::SettlingSteps::surface_overflow_rate))]
-fn surface_overflow_rate(tank: TankFlow, volume: u64) -> u64
-    requires { Between 1 most_sludge_volume volume }
-    ensures { (result ≡ surface_overflow_rate tank volume) × Between 720 2_000 result }
+fn surface_overflow_rate(tank: TankFlow, volume: DilutedVolume) -> OverflowRate
+    ensures { result ≡ surface_overflow_rate tank volume }
 {
-    (1000 * volume_loading(tank) / volume).min(largest_overflow_rate(tank))
+    let rate = 1000 * volume_loading(tank) / volume.get();
+    OverflowRate::new(rate.min(largest_overflow_rate(tank)))
 }
 
 // A, settling surface, m2
 #[tactic(auto, using(crate::proofs::Limits::surface_limits), unfolding(rules::specs::SettlingSteps::settling_surface))]
-fn settling_surface(wet: u64, rate: u64) -> u64
-    requires { Between 1 50_000 wet × Between 720 2_000 rate }
-    ensures { (result ≡ settling_surface wet rate) × Between 1 most_surface result }
+fn settling_surface(wet: u64, rate: OverflowRate) -> SettlingSurface
+    requires { Between 1 50_000 wet }
+    ensures { result ≡ settling_surface wet rate }
 {
-    rounding::round_up(1000 * wet, rate)
+    SettlingSurface::new(rounding::round_up(1000 * wet, rate.get()))
 }
 
 // H, settling depth, mm: 500 of clear water, then separation, storage and thickening; at least 3,000. The storage
 // takes q · V as it is, also where q was held at m. The six figures meet in this step alone, so no struct holds them.
 fn settling_depth(
-    rate: u64,
-    ratio: u64,
-    volume: u64,
-    solids: u64,
-    thickening: u64,
-    bottom: u64,
-) -> u64
-    requires { DepthRanges rate ratio volume solids thickening bottom }
-    ensures { (result ≡ settling_depth rate ratio volume solids thickening bottom) × Between least_depth most_depth result }
+    rate: OverflowRate,
+    ratio: GridRatio,
+    volume: DilutedVolume,
+    solids: MixedSolids,
+    thickening: GridTime,
+    bottom: BottomSludge,
+) -> SettlingDepth
+    requires { 2 * solids ≤ bottom }
+    ensures { result ≡ settling_depth rate ratio volume solids thickening bottom }
 {
-    let separation = rounding::round_up(5 * rate * (100 + ratio), 1000 - volume);
+    let rate = rate.get();
+    let volume = volume.get();
+    // the flow that enters the tank, hundredths of the plant's
+    let entering = 100 + ratio.get();
+    let separation = rounding::round_up(5 * rate * entering, 1000 - volume);
     let loading = rounding::round_up(rate * volume, 1000);
-    let storage = rounding::round_up(9 * loading * (100 + ratio), 1000);
-    let thickened = rounding::round_up(solids * rate * (100 + ratio) * thickening, 1000 * bottom);
-    (500 + separation + storage + thickened).max(3_000)
+    let storage = rounding::round_up(9 * loading * entering, 1000);
+    let thickened = rounding::round_up(
+        solids.get() * rate * entering * thickening.get(),
+        1000 * bottom.get(),
+    );
+    SettlingDepth::new((500 + separation + storage + thickened).max(3_000))
 }
 
 // Settling volume, m3
 #[tactic(auto, using(crate::proofs::Limits::volume_limits), unfolding(rules::specs::SettlingSteps::settling_volume))]
-fn settling_volume(surface: u64, depth: u64) -> u64
-    requires { Between 1 most_surface surface × Between least_depth most_depth depth }
-    ensures { (result ≡ settling_volume surface depth) × Between 1 most_settling_volume result }
+fn settling_volume(surface: SettlingSurface, depth: SettlingDepth) -> SettlingVolume
+    ensures { result ≡ settling_volume surface depth }
 {
-    rounding::round_up(surface * depth, 1000)
+    SettlingVolume::new(rounding::round_up(surface.get() * depth.get(), 1000))
 }
 
 // Needed of a candidate: E of at least 1,000 and V of at most 600.
 #[tactic(auto, unfolding(rules::specs::SettlingSteps::solids_kept))]
-fn solids_kept(solids: u64, volume: u64) -> bool
+fn solids_kept(solids: MixedSolids, volume: DilutedVolume) -> bool
     ensures { result ≡ solids_kept solids volume }
 {
-    1_000 <= solids && volume <= 600
+    1_000 <= solids.get() && volume.get() <= 600
 }
 
 // The verdict on the tank's rules 8 to 10.
-pub fn tank_verdict(plant: &Plant, settling: Settling) -> Result<(), Refusal>
-    ensures { result ≡ verdict (tank_rules plant.now settling) }
+pub fn tank_verdict(plant: &Plant, settling: &Settling) -> Result<(), Refusal>
+    ensures { result ≡ verdict (tank_rules plant.now settling.now) }
 {
     let solids = solids_kept(settling.solids, settling.sludge_volume);
-    let surface = settling.surface <= u64::from(plant.site_surface);
-    let depth = settling.depth <= u64::from(plant.site_depth);
+    let surface = settling.surface.get() <= u64::from(plant.site_surface);
+    let depth = settling.depth.get() <= u64::from(plant.site_depth);
     verdicts::rule(solids, Refusal::Solids)?;
     verdicts::rule(surface, Refusal::Surface)?;
     verdicts::rule(depth, Refusal::Depth)

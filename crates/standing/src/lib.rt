@@ -1,5 +1,5 @@
 // The call on the existing tanks of a standing works: a request's bytes in; out the answer's number, and on the page the smallest
-// sludge volume index that is lost, or 0.
+// sludge volume index that is lost, or 0. The layout is C's: each figure is read by the number of its word.
 #![tactic(auto)]
 
 ghost use Rattle.std.specs.Prelude.{◌≡◌, ◌≤◌, length, Ok};

@@ -18,8 +18,8 @@ ghost use Rattle.sweeping.specs.Spots.{NoneCovered, spot_of, LeastOfStretch, Han
 use choosing::{Key, MOST_TANKS, Tanks, kept_mass, lesser};
 use reactor::Basis;
 use rules::{
-    Accepted, Answer, Candidate, LEAST_FRACTION, MOST_ADVANCE, MOST_FRACTION, Plant, Progress,
-    Readings, Refusal, TankFlow,
+    Accepted, Answer, Candidate, GridFraction, LEAST_FRACTION, MOST_ADVANCE, MOST_FRACTION, Plant,
+    Progress, Readings, Refusal, TankFlow,
 };
 
 // What a sweep hands on.
@@ -75,7 +75,7 @@ fn grid_size(flow: TankFlow) -> u32
 fn numbers_kept(flow: TankFlow, asked: u32, n: u32) -> bool
     ensures { result ≡ numbers_kept flow asked n }
 {
-    (n <= MOST_ADVANCE) & (asked <= grid_size(flow))
+    n <= MOST_ADVANCE && asked <= grid_size(flow)
 }
 
 // Some fraction from the first to the last is covered.
@@ -83,12 +83,7 @@ fn any_covered(basis: &Basis, first: u32, last: u32) -> bool
     requires { (least_fraction ≤ first) × (last ≤ most_fraction) }
     ensures { result ≡ false → NoneCovered basis.now.data first (last + 1) }
 {
-    'fraction: for f in first..=last {
-        if kept_mass(basis, f).is_some() {
-            return true;
-        }
-    }
-    false
+    (first..last + 1).any(|f| kept_mass(basis, GridFraction::new(u64::from(f))).is_some())
 }
 
 // The least key over the tanks of one fraction from a place of the table on, before another.
@@ -99,7 +94,7 @@ fn part(tanks: &Tanks, fraction: u32, from: u32, to: u32) -> Option<Key>
     if to <= from {
         return None;
     }
-    let mass = kept_mass(tanks.basis, fraction)?;
+    let mass = kept_mass(tanks.basis, GridFraction::new(u64::from(fraction)))?;
     tanks.run(mass, fraction, from, to)
 }
 

@@ -17,7 +17,7 @@ impl fmt::Display for Tenths {
     }
 }
 
-// A number of hundredths, with its point; the whole part in seven places.
+// A number of hundredths, with its point; the whole part in seven places. A format's width is no parameter, so there are two.
 #[derive(Drop)]
 struct Hundredths(u64);
 

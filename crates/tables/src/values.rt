@@ -1,7 +1,9 @@
 // The values of Tables 2, 5 and 7, from the steps of the design, rounded to the printed digits.
-ghost use Rattle.rules.specs.Ranges.{Between};
+ghost use Rattle.rules.specs.Ranges.{Between, GridFraction};
 ghost use Rattle.std.specs.Prelude.{IsTrue, ◌≡◌, ◌+◌, ◌≤◌, ◌↔◌, length};
 ghost use Rattle.tables.specs.Values.{Fits, value_at, nearest, age_tenths, production_hundredths, consumption_hundredths, agreeing_in};
+
+use rules::{GridFraction, Temperature};
 
 // The fractions VD/VAT of Table 2, thousandths.
 pub(crate) const FRACTIONS: [u64; 4] = [200, 300, 400, 500];
@@ -19,11 +21,13 @@ fn nearest(a: u64, d: u64) -> u64
 
 // Table 2: sludge age, tenths of a day.
 fn sludge_age(load: u64, temperature: u64, fraction: u64) -> u64
-    requires { (load ≤ 100_000) × Between 10 20 temperature × (fraction ≤ 500) }
+    requires { (load ≤ 100_000) × Between 10 20 temperature × GridFraction fraction }
     ensures { result ≡ age_tenths load temperature fraction }
 {
-    let aerobic = reactor::aerobic_age(reactor::safety_factor(load), temperature);
-    nearest(reactor::sludge_age(aerobic, fraction), 100)
+    let factor = reactor::safety_factor(load);
+    let aerobic = reactor::aerobic_age(factor, Temperature::new(temperature));
+    let age = reactor::sludge_age(aerobic, GridFraction::new(fraction));
+    nearest(age.get(), 100)
 }
 
 // Table 5: specific sludge production, hundredths of kg/kg, the mean of 10 and 12 degrees; the ratio X/C in tenths.
@@ -31,9 +35,10 @@ fn sludge_production(ratio: u64, days: u64) -> u64
     requires { (ratio ≤ 20) × (days ≤ 25) }
     ensures { result ≡ production_hundredths ratio days }
 {
-    let cold = reactor::biomass_decay(reactor::corrected_age(1000 * days, 10));
-    let warm = reactor::biomass_decay(reactor::corrected_age(1000 * days, 12));
-    nearest(1_500 + 120 * ratio - (cold + warm), 20)
+    let cold = reactor::corrected_age(1000 * days, Temperature::new(10));
+    let warm = reactor::corrected_age(1000 * days, Temperature::new(12));
+    let decay = reactor::biomass_decay(cold) + reactor::biomass_decay(warm);
+    nearest(1_500 + 120 * ratio - decay, 20)
 }
 
 // Table 7: specific oxygen consumption, hundredths of kg/kg.
@@ -41,7 +46,7 @@ fn oxygen_consumption(temperature: u64, days: u64) -> u64
     requires { Between 10 20 temperature × (days ≤ 25) }
     ensures { result ≡ consumption_hundredths temperature days }
 {
-    let corrected = reactor::corrected_age(1000 * days, temperature);
+    let corrected = reactor::corrected_age(1000 * days, Temperature::new(temperature));
     nearest(reactor::capacity_uptake(corrected), 10)
 }
 

@@ -5,7 +5,7 @@ ghost use Rattle.std.specs.Prelude.{◌≡◌, cond, Ok, Err};
 
 use rules::Refusal;
 
-// The rule's refusal where it is broken.
+// The rule's refusal where it is broken. The bool is a test's answer.
 pub fn rule(kept: bool, refusal: Refusal) -> Result<(), Refusal>
     ensures { result ≡ cond kept (Ok tt) (Err refusal) }
 {

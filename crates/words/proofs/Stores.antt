@@ -1,6 +1,6 @@
 -- Runs of stores, what is left of numbers while a loop stores them, and the library's bytes of a number. Assumes nothing.
 use mathlib.Core.Path.{◌≡◌, refl, ap, ◌∙◌}
-use mathlib.Core.List.{List, [], ◌∷◌, ◌++◌}
+use mathlib.Core.List.{List, [], ◌∷◌, ◌++◌, map}
 use Prim.Native.Nat.{ℕ, zero, suc, ◌+◌, ◌*◌, ◌/◌, ◌%◌, ◌^◌, ◌≤◌, ◌<◌}
 use native.Mathlib.Omega.{arith}
 use borrow.Rule.Slice.PartMut.{put_mid}
@@ -10,6 +10,8 @@ use Rattle.std.proofs.Math.Nat.{add-zero, zero-add, div-one, pow-suc, div-div-eq
 use Rattle.std.proofs.Math.Numerals.{add-one}
 use Rattle.std.proofs.Common.{append_assoc}
 use Rattle.std.proofs.lemmas.List.Edits.{paste_all}
+use Rattle.std.proofs.lemmas.List.FromFn.{fill_by_all}
+use Rattle.std.specs.List.{range_with_len}
 use Rattle.std.proofs.lemmas.Slice.{put_mid-paste}
 use Rattle.std.specs.Int.{Width, bytes_low_first, byte_len, to_le_bytes}
 use Rattle.words.specs.Bytes.{word, words_from, low_bytes, chunked, number_bytes, word_bytes}
@@ -42,17 +44,15 @@ length_numbers numbers = length_chunks (low_bytes 8) 8 (length_low 8) numbers
 pub length_word_bytes : (words : List ℕ) → length (word_bytes words) ≡ 4 * length words
 length_word_bytes words = length_chunks (low_bytes 4) 4 (length_low 4) words
 
--- a list that has at each index the word there
-pub words_by_index :
-    (bytes words : List ℕ) (i : ℕ) → ((k : ℕ) → k < length words → get_or words k 0 ≡ word bytes (i + k))
-    → words ≡ words_from bytes i (length words)
+-- words in turn, as the library has a function's values
+words_mapped : (bytes : List ℕ) (i count : ℕ) → words_from bytes i count ≡ map (word bytes) (range_with_len i count)
 unfolding words_from
-words_by_index bytes [] i each = refl
-words_by_index bytes (w ∷ words) i each =
-    let first : w ≡ word bytes i = each 0 (omega arith) ∙ rw add-zero in
-    let rest : (k : ℕ) → k < length words → get_or words k 0 ≡ word bytes (i + 1 + k) =
-    λ k below. let e : i + 1 + k ≡ i + suc k = omega arith in rw e (each (suc k) (omega arith)) in
-    rw first (ap (λ (left : List ℕ). word bytes i ∷ left) (words_by_index bytes words (i + 1) rest))
+words_mapped bytes i zero = refl
+words_mapped bytes i (suc count) = λ j. word bytes i ∷ words_mapped bytes (i + 1) count j
+
+-- a list that has at each index the word there
+pub words_by_index : (bytes words : List ℕ) → ((k : ℕ) → k < length words → get_or words k 0 ≡ word bytes k) → words ≡ words_from bytes 0 (length words)
+words_by_index bytes words each = rw words_mapped (fill_by_all (word bytes) words (length words) 0 refl each)
 
 -- the library's bytes of a number are its lowest
 low_first : (i k n : ℕ) → bytes_low_first i k n ≡ low_bytes k (n / 256 ^ i)

@@ -9,7 +9,7 @@ ghost use Rattle.words.specs.Bytes.{word, words_from, low_bytes, number_bytes, w
 
 use std::num::f32_from_bits_with_nan;
 
-// The word at an index: four bytes, the lowest first.
+// The word at an index: four bytes, the lowest first. By their places: the library cuts a slice that is only read into no arrays of four.
 pub fn word(bytes: &[u8], i: usize) -> u32
     requires { 4 * i + 4 ≤ length bytes.now }
     ensures { result ≡ word bytes.now i }
@@ -36,7 +36,8 @@ pub fn float(bits: u32) -> f32
     f32_from_bits_with_nan(bits)
 }
 
-// Writes numbers from the page's start, eight bytes each: the page's later bytes stay.
+// Writes numbers from the page's start, eight bytes each: the page's later bytes stay. For words there is a second function, since
+// `to_le_bytes` is each type's own and no trait's.
 pub fn put_numbers(page: &mut [u8], numbers: &[u64])
     requires { 8 * length numbers.now ≤ length page.old }
     ensures { page.new ≡ sets page.old 0 (number_bytes numbers.now) }

@@ -24,11 +24,10 @@ fn shares_to(split: &Split, lines: usize) -> u64
     requires { lines ≤ most_lines }
     ensures { (result ≡ shares_to split.now lines) × (result ≤ most_shares) }
 {
-    let mut sum = 0;
-    'line: for share in &split.shares[..lines] {
-        sum += u64::from(*share);
-    }
-    sum
+    split.shares[..lines]
+        .iter()
+        .map(|share| u64::from(*share))
+        .sum()
 }
 
 // Each of the first shares is at least 1.
@@ -59,22 +58,6 @@ fn part(whole: u32, before: u64, to: u64) -> u32
     (whole * to / 1000 - whole * before / 1000) as u32
 }
 
-// A line of a works in range, as a plant.
-fn line_of(accepted: &Accepted, split: &Split, i: usize) -> Plant
-    requires { T (split_valid split.now) × (i < split.now.count) }
-    ensures { result ≡ line_of accepted.now.plant split.now i }
-{
-    let plant = accepted.plant;
-    let before = shares_to(split, i);
-    let to = shares_to(split, i + 1);
-    Plant {
-        flow: part(plant.flow, before, to),
-        wet_weather_flow: part(plant.wet_weather_flow, before, to),
-        site_surface: part(plant.site_surface, before, to),
-        ..plant
-    }
-}
-
 // None of a line's daily flow, wet weather flow and surface is 0.
 #[tactic(auto, unfolding(rules::specs::Lines::line_positive))]
 fn line_positive(line: &Plant) -> bool
@@ -83,29 +66,54 @@ fn line_positive(line: &Plant) -> bool
     1 <= line.flow && 1 <= line.wet_weather_flow && 1 <= line.site_surface
 }
 
-// The answer of a line: 1 where a part of it is 0, else the design chosen for it, or 5.
-fn line_answer(accepted: &Accepted, split: &Split, i: usize) -> Answer
-    requires { T (split_valid split.now) × (i < split.now.count) }
-    ensures { LineChosen (line_of accepted.now.plant split.now i) accepted.now.concentrations result }
-{
-    let plant = line_of(accepted, split, i);
-    verdicts::rule(line_positive(&plant), Refusal::PlantData)?;
-    choosing::choose_accepted(&Accepted {
-        plant,
-        concentrations: accepted.concentrations,
-    })
+// Accepted data of a works, and how it is split.
+#[derive(Drop)]
+struct Lines<'a> {
+    accepted: &'a Accepted,
+    split: &'a Split,
+    ghost valid: { T (split_valid split.now) },
 }
 
-// The answers of all lines, in order. The index is the line's number in the split.
-fn lines(accepted: &Accepted, split: &Split) -> [Answer; MOST_LINES]
-    requires { T (split_valid split.now) }
-    ensures { LinesChosen accepted.now.plant accepted.now.concentrations split.now split.now.count result }
-{
-    let mut answers = [Err(Refusal::PlantData); MOST_LINES];
-    'line: for i in 0..split.count as usize {
-        answers[i] = line_answer(accepted, split, i);
+impl<'a> Lines<'a> {
+    // A line of the works, as a plant.
+    fn plant(&self, i: usize) -> Plant
+        requires { i < self.now.split.now.count }
+        ensures { result ≡ line_of self.now.accepted.now.plant self.now.split.now i }
+    {
+        let plant = self.accepted.plant;
+        let before = shares_to(self.split, i);
+        let to = shares_to(self.split, i + 1);
+        Plant {
+            flow: part(plant.flow, before, to),
+            wet_weather_flow: part(plant.wet_weather_flow, before, to),
+            site_surface: part(plant.site_surface, before, to),
+            ..plant
+        }
     }
-    answers
+
+    // The answer of a line: 1 where a part of it is 0, else the design chosen for it, or 5.
+    fn answer(&self, i: usize) -> Answer
+        requires { i < self.now.split.now.count }
+        ensures { LineChosen (line_of self.now.accepted.now.plant self.now.split.now i) self.now.accepted.now.concentrations result }
+    {
+        let plant = self.plant(i);
+        verdicts::rule(line_positive(&plant), Refusal::PlantData)?;
+        choosing::choose_accepted(&Accepted {
+            plant,
+            concentrations: self.accepted.concentrations,
+        })
+    }
+
+    // The answers of all lines, in order; past the last, what nothing reads. A loop: `array::from_fn` takes 4 kilobytes of stack more.
+    fn answers(&self) -> [Answer; MOST_LINES]
+        ensures { LinesChosen self.now.accepted.now.plant self.now.accepted.now.concentrations self.now.split.now self.now.split.now.count result }
+    {
+        let mut answers = [Err(Refusal::PlantData); MOST_LINES];
+        'line: for i in 0..self.split.count as usize {
+            answers[i] = self.answer(i);
+        }
+        answers
+    }
 }
 
 // The figures of one sheet more added to the sums of n.
@@ -142,7 +150,8 @@ fn put_together(answers: &[Answer]) -> Result<Works, Refusal>
     Ok(works)
 }
 
-// 18 where the split, or the number of a line, is invalid; else what the whole works' data get.
+// 18 where the split, or the number of a line, is invalid; else what the whole works' data get: one clause for both calls. The bool is a
+// test's answer.
 fn accept_split(plant: Plant, readings: Readings, valid: bool) -> Result<Accepted, Refusal>
     ensures value { acceptance_of result ≡ accept_by (verdict (rule Refusal.Lines valid ∷ data_rules plant readings)) (values_of plant readings) }
     ensures plant { IfOk result (λ a. a.plant ≡ plant) }
@@ -151,7 +160,7 @@ fn accept_split(plant: Plant, readings: Readings, valid: bool) -> Result<Accepte
     accepting::accept(plant, readings)
 }
 
-// The figures of a works in order: the sums, then those of each line's sheet. The index is the line's, and gives the place of its row.
+// The figures of a works in order, which fields do not have: the sums, then those of each line's sheet.
 pub fn figures(works: Works, figures: &mut [u64; WORKS_FIGURES])
     ensures { figures.new ≡ works_figures works }
 {
@@ -167,8 +176,8 @@ pub fn figures(works: Works, figures: &mut [u64; WORKS_FIGURES])
         sums.transfer,
     ];
     words::store(figures, 0, &row);
-    'line: for i in 0..MOST_LINES {
-        words::store(figures, 8 + 15 * i, &listing::figures(works.sheets[i]));
+    for (i, sheet) in works.sheets.iter().enumerate() {
+        words::store(figures, 8 + 15 * i, &listing::figures(*sheet));
     }
 }
 
@@ -177,7 +186,11 @@ pub fn works(plant: Plant, readings: Readings, split: Split) -> Result<Works, Re
     ensures { WorksChosen plant readings split result }
 {
     let accepted = accept_split(plant, readings, split_valid(&split))?;
-    let answers = lines(&accepted, &split);
+    let lines = Lines {
+        accepted: &accepted,
+        split: &split,
+    };
+    let answers = lines.answers();
     put_together(&answers[..split.count as usize])
 }
 
@@ -193,5 +206,9 @@ pub fn line(plant: Plant, readings: Readings, split: Split, number: u32) -> Answ
     ensures { LineAnswered plant readings split number result }
 {
     let accepted = accept_split(plant, readings, line_valid(&split, number))?;
-    line_answer(&accepted, &split, number as usize - 1)
+    let lines = Lines {
+        accepted: &accepted,
+        split: &split,
+    };
+    lines.answer(number as usize - 1)
 }

@@ -3,7 +3,7 @@ use Rattle.std.proofs.Common.{sym, ◌∙◌}
 use Rattle.std.proofs.lemmas.Result.{err_from_is_err_and}
 use denote.Floats.{passes}
 use Rattle.rules.proofs.AcceptedData.{accepted_ranges}
-use Rattle.rules.proofs.RangeFacts.{flow_least}
+use Rattle.rules.proofs.RangeFacts.{flow_between}
 use Rattle.accepting.proofs.Gathering.{out_of_range, index_too_high, readings_refused, terms_refused, accepted}
 use Rattle.accepting.proofs.accept.Goals as goal
 
@@ -16,7 +16,7 @@ returns-then-plant-gt-MOST_INDEX-clause-value c =
     index_too_high c.args.plant c.args.readings (sym c.plant_in_range.ensures ∙ c.if-not-plant_in_range.false) c.if-plant-gt-MOST_INDEX.true
 
 pub accept_readings-requires : goal.accept_readings-requires
-accept_readings-requires c = flow_least c.args.plant (passes _ (sym c.plant_in_range.ensures ∙ c.if-not-plant_in_range.false))
+accept_readings-requires c = flow_between c.args.plant (passes _ (sym c.plant_in_range.ensures ∙ c.if-not-plant_in_range.false))
 
 pub returns-in_err-concentrations-clause-value : goal.returns-in_err-concentrations-clause-value
 returns-in_err-concentrations-clause-value c =

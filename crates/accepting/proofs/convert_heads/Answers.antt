@@ -1,20 +1,16 @@
 -- `convert_heads` meets its contract: a head count in its range gives a product that fits. Assumes nothing.
-use Rattle.std.proofs.Common.{◌≡◌, true, sym, ◌∙◌, arith}
-use Rattle.rules.specs.PlantData.{within}
+use Rattle.std.proofs.Common.{sym, ◌∙◌, arith}
 use Rattle.accepting.proofs.Conversions.{heads_most}
 use Rattle.accepting.proofs.convert_heads.Goals as goal
 
 pub overflow_mul-from : goal.overflow_mul-from
 overflow_mul-from c =
-    let counted : within 1 2_000_000 c.args.heads ≡ true = sym c.within.ensures ∙ c.if-not-within.false in
-    omega (arith, heads_most c.args.plant.now.primary_settling c.args.parameter _ _ _ counted c.from.ensures c.per_head-grams.ensures)
+    omega (arith, heads_most c.args.settling c.args.parameter _ _ _ (sym c.within.ensures ∙ c.if-not-within.false) c.from.ensures c.per_head-grams.ensures)
 
 pub overflow_mul-from-2 : goal.overflow_mul-from-2
 overflow_mul-from-2 c =
-    let counted : within 1 2_000_000 c.args.heads ≡ true = sym c.within.ensures ∙ c.if-not-within.false in
-    omega (arith, heads_most c.args.plant.now.primary_settling c.args.parameter _ _ _ counted c.from.ensures c.per_head-grams.ensures)
+    omega (arith, heads_most c.args.settling c.args.parameter _ _ _ (sym c.within.ensures ∙ c.if-not-within.false) c.from.ensures c.per_head-grams.ensures)
 
 pub round_up-n-requires : goal.round_up-n-requires
 round_up-n-requires c =
-    let counted : within 1 2_000_000 c.args.heads ≡ true = sym c.within.ensures ∙ c.if-not-within.false in
-    omega (arith, heads_most c.args.plant.now.primary_settling c.args.parameter _ _ _ counted c.from.ensures c.per_head-grams.ensures)
+    omega (arith, heads_most c.args.settling c.args.parameter _ _ _ (sym c.within.ensures ∙ c.if-not-within.false) c.from.ensures c.per_head-grams.ensures)

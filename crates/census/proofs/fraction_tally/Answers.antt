@@ -15,7 +15,7 @@ overflow_add-tally c =
 pub fraction-preserved : goal.fraction-preserved
 fraction-preserved c =
     fraction_tallied _ _ c.fraction.f c.fraction_number.result c.fraction.tally c.fraction.auto.f
-    (rw c.new-basis.ensures at c.fraction_number.ensures.0)
+    (rw (c.new-basis.ensures, c.new.ensures, c.from.ensures) at c.fraction_number.ensures.0)
     c.fraction_number.ensures.1
     c.fraction.invariant
 

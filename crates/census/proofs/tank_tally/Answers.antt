@@ -19,7 +19,7 @@ overflow_add-tally c =
 pub ratio-preserved : goal.ratio-preserved
 ratio-preserved c =
     tank_tallied c.args.accepted.now.plant (c.args.last + 1 - least_ratio) c.time.h c.ratio.r c.tank_number.result c.ratio.tally c.ratio.auto.r
-    (rw c.new-thickened.ensures.1 at c.tank_number.ensures.0)
+    (rw (c.new-thickened.ensures.0, c.new-thickened.ensures.1, c.new.ensures, c.from.ensures, c.new-in-ratio.ensures, c.from-in-ratio.ensures) at c.tank_number.ensures.0)
     c.tank_number.ensures.1
     c.ratio.invariant
 
@@ -31,7 +31,7 @@ time-preserved c =
           let end : c.ratio.r + 1 ≡ c.args.last + 1 = omega arith in
           let last =
           tank_tallied c.args.accepted.now.plant (c.args.last + 1 - least_ratio) c.time.h c.ratio.r w.tank_number.result c.ratio.tally c.ratio.auto.r
-          (rw c.new-thickened.ensures.1 at w.tank_number.ensures.0)
+          (rw (c.new-thickened.ensures.0, c.new-thickened.ensures.1, c.new.ensures, c.from.ensures, w.new-in-ratio.ensures, w.from-in-ratio.ensures) at w.tank_number.ensures.0)
           w.tank_number.ensures.1
           c.ratio.invariant in
           rw w.tally-is (time_done c.args.accepted.now.plant c.time.h (c.args.last + 1) _ c.time.auto.h (rw end at last))

@@ -1,7 +1,6 @@
 -- `choose_accepted` meets its contract: the least key over all fractions names the least design, or there is none. Assumes nothing.
 use mathlib.Core.Path.{◌≡◌, refl}
 use Prim.Native.Nat.{◌+◌}
-use native.Mathlib.Omega.{arith}
 use Rattle.std.specs.Prelude.{Some, None}
 use Rattle.rules.specs.Limits.{least_fraction, most_fraction}
 use Rattle.rules.specs.Ranges.{OnGrid}
@@ -26,26 +25,13 @@ least c =
 inside : (c : In-Some) → OnGrid (key_candidate c.in-Some.key)
 inside c = on_grid_lem c.args.accepted.now.plant.tank (key_candidate c.in-Some.key) (whole c.args.accepted.now (Some c.in-Some.key) (least c)).0
 
-pub reactor-reactor-requires : goal.reactor-reactor-requires
-reactor-reactor-requires c =
-    let grid : OnGrid c.candidate-candidate.result = rw c.candidate-candidate.ensures (inside (goal.at.reactor-reactor-requires c).In-Some) in
-    omega (arith, grid.fraction)
-
-pub new-thickened-requires : goal.new-thickened-requires
-new-thickened-requires c =
-    let grid : OnGrid c.candidate-candidate.result = rw c.candidate-candidate.ensures (inside (goal.at.new-thickened-requires c).In-Some) in
-    (c.args.accepted.now.plant_ranges.index, omega (arith, grid.time))
+pub new-candidate-requires : goal.new-candidate-requires
+new-candidate-requires c = rw c.candidate.ensures (inside (goal.at.new-candidate-requires c).In-Some)
 
 pub judge_tank-requires : goal.judge_tank-requires
-judge_tank-requires c =
-    let grid = inside (goal.at.judge_tank-requires c).In-Some in (
-      rw c.candidate-candidate.ensures grid,
-      record { value = rw c.new-basis.ensures at c.reactor-reactor.ensures.0; bounds = c.reactor-reactor.ensures.1 },
-      c.new-thickened.ensures.1,
-      c.new-thickened.ensures.0,
-    )
+judge_tank-requires c = rw (c.new-basis.ensures, c.fraction.ensures) at c.reactor-reactor.ensures
 
 pub returns : goal.returns
 returns c =
-    designed c.args.accepted.now c.in-Some.key c.candidate-candidate.result c.judge_tank.result (least (goal.at.returns c).In-Some)
-    c.candidate-candidate.ensures c.judge_tank.ensures
+    designed c.args.accepted.now c.in-Some.key c.new-candidate.result c.judge_tank.result (least (goal.at.returns c).In-Some)
+    (rw c.candidate.ensures at c.new-candidate.ensures) c.judge_tank.ensures

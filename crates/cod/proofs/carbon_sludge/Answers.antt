@@ -7,5 +7,5 @@ use Rattle.cod.proofs.carbon_sludge.Goals as goal
 pub returns : goal.returns
 unfolding carbon_sludge_by_cod inorganic_solids
 returns c =
-    let less : c.inert_soluble-soluble.result ≡ inert_soluble false c.args.cod = c.inert_soluble-soluble.ensures.0 in
+    let less : c.inert_soluble-soluble.result ≡ inert_soluble false c.args.accepted.now.concentrations.cod = c.inert_soluble-soluble.ensures.0 in
     grind (arith, common_steps)

@@ -12,9 +12,8 @@ returns-in_err-rule c =
     let broken = step_broken _ _ c.in_err-rule.ensures in
     rw (p.1, p.2, broken.1) (off_grid c.args.accepted.now.plant c.args.accepted.now.concentrations c.args.candidate (sym c.on_grid-on_grid.ensures ∙ broken.0))
 
-pub reactor-reactor-requires : goal.reactor-reactor-requires
-reactor-reactor-requires c =
-    (inside c.args.accepted.now.plant c.args.candidate (sym c.on_grid-on_grid.ensures ∙ step_kept _ _ c.in_ok-rule.ensures)).fraction
+pub new-candidate-requires : goal.new-candidate-requires
+new-candidate-requires c = inside c.args.accepted.now.plant c.args.candidate (sym c.on_grid-on_grid.ensures ∙ step_kept _ _ c.in_ok-rule.ensures)
 
 pub returns-in_err-fraction_verdict : goal.returns-in_err-fraction_verdict
 returns-in_err-fraction_verdict c =
@@ -24,28 +23,18 @@ returns-in_err-fraction_verdict c =
     (fraction_broken known.plant known.concentrations c.args.candidate
     (sym c.on_grid-on_grid.ensures ∙ step_kept _ _ c.in_ok-rule.ensures)
     c.reactor-reactor.result
-    (rw c.new-basis.ensures at c.reactor-reactor.ensures.0)
+    (rw (c.new-basis.ensures, c.fraction.ensures, c.new-candidate.ensures) at c.reactor-reactor.ensures)
     _
     (sym (rw c.new-basis.ensures at c.in_err-fraction_verdict.ensures)))
 
-pub new-thickened-requires : goal.new-thickened-requires
-new-thickened-requires c =
-    let known = c.args.accepted.now in
-    (known.plant_ranges.index, (inside known.plant c.args.candidate (sym c.on_grid-on_grid.ensures ∙ step_kept _ _ c.in_ok-rule.ensures)).time)
-
 pub judge_tank-requires : goal.judge_tank-requires
-judge_tank-requires c = (
-  inside c.args.accepted.now.plant c.args.candidate (sym c.on_grid-on_grid.ensures ∙ step_kept _ _ c.in_ok-rule.ensures),
-  record { value = rw c.new-basis.ensures at c.reactor-reactor.ensures.0; bounds = c.reactor-reactor.ensures.1 },
-  c.new-thickened.ensures.1,
-  c.new-thickened.ensures.0,
-)
+judge_tank-requires c = rw (c.new-basis.ensures, c.fraction.ensures) at c.reactor-reactor.ensures
 
 pub returns : goal.returns
 returns c =
     let known = c.args.accepted.now in
-    c.judge_tank.ensures
+    rw c.new-candidate.ensures at c.judge_tank.ensures
     ∙ to_the_tank known.plant known.concentrations c.args.candidate (sym c.on_grid-on_grid.ensures ∙ step_kept _ _ c.in_ok-rule.ensures)
     c.reactor-reactor.result
-    (rw c.new-basis.ensures at c.reactor-reactor.ensures.0)
+    (rw (c.new-basis.ensures, c.fraction.ensures, c.new-candidate.ensures) at c.reactor-reactor.ensures)
     (sym (rw c.new-basis.ensures at c.in_ok-fraction_verdict.ensures))

@@ -8,9 +8,9 @@ pub returns-in_err-tank_verdict : goal.returns-in_err-tank_verdict
 unfolding judge_tank answer_by
 returns-in_err-tank_verdict c =
     let p = err_from_is_err_and c.from_residual.result c.from_residual.ensures.1 in
-    rw (p.1, p.2, ← c.requires.2, ← c.tank-settling.ensures.0, ← c.in_err-tank_verdict.ensures)
+    rw (p.1, p.2, ← c.settling_of-settling.ensures, ← c.in_err-tank_verdict.ensures)
 
 pub returns : goal.returns
 unfolding judge_tank answer_by sheet_of
 returns c =
-    rw (c.sheet_from.ensures, c.aeration-aeration.ensures, ← c.requires.2, ← c.tank-settling.ensures.0, ← c.requires.1.value, ← c.in_ok-tank_verdict.ensures)
+    rw (c.sheet_from.ensures, c.aeration-aeration.ensures, ← c.settling_of-settling.ensures, ← c.requires, ← c.in_ok-tank_verdict.ensures)

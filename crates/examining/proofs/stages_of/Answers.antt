@@ -13,9 +13,7 @@ one_after_other (Err n) b = refl
 
 pub returns : goal.returns
 returns c = record {
-  reactor = c.reactor-reactor.ensures.0;
-  settling = rw (← c.new-thickened.ensures.1) c.tank-settling.ensures.0;
+  reactor = rw c.fraction.ensures at c.reactor-reactor.ensures;
+  settling = c.settling_of-settling.ensures;
   verdict = rw (verdict_append, ← c.fraction_verdict-fraction.ensures, ← c.tank_verdict-tank.ensures) (c.and.ensures ∙ one_after_other c.fraction_verdict-fraction.result c.tank_verdict-tank.result);
-  reactor_bounds = c.reactor-reactor.ensures.1;
-  settling_bounds = c.tank-settling.ensures.1;
 }

@@ -13,9 +13,9 @@ returns-in_err-rule c =
     let broken = step_broken _ _ c.in_err-rule.ensures in
     rw (p.1, p.2, broken.1, ← c.on_grid.ensures, broken.0) refl
 
-pub explained-requires : goal.explained-requires
-explained-requires c = inside c.args.accepted.now.plant c.args.candidate (sym c.on_grid.ensures ∙ step_kept _ _ c.in_ok-rule.ensures)
+pub new-requires : goal.new-requires
+new-requires c = inside c.args.accepted.now.plant c.args.candidate (sym c.on_grid.ensures ∙ step_kept _ _ c.in_ok-rule.ensures)
 
 pub returns : goal.returns
 unfolding explain_candidate
-returns c = rw (← c.on_grid.ensures, step_kept _ _ c.in_ok-rule.ensures, c.explained.ensures)
+returns c = rw (← c.on_grid.ensures, step_kept _ _ c.in_ok-rule.ensures, c.explained.ensures, c.new.ensures)

@@ -12,4 +12,16 @@ returns c =
     let settling = rw c.new-basis.ensures at staged.settling in
     let verdict = rw c.new-basis.ensures at staged.verdict in
     let terms = rw c.new-basis.ensures at c.terms_explained.ensures in
-    rw (← reactor, ← settling, ← verdict, ← terms) refl
+    rw (
+      ← reactor,
+      ← settling,
+      ← verdict,
+      ← terms,
+      c.get-removed_by_bod.ensures.0,
+      c.get-removed_by_dose.ensures.0,
+      c.get.ensures.0,
+      c.get-2.ensures.0,
+      c.get-3.ensures.0,
+      c.get-4.ensures.0,
+      c.get-5.ensures.0,
+    ) refl

@@ -17,11 +17,11 @@ pub bounds-tariff-k : goal.bounds-tariff-k
 bounds-tariff-k c = omega (arith, (valid_tariff c.args.tariff.now c.requires.0).most)
 
 -- a band's metres cost at most the largest reactor at the largest price
-product : (c : goal.After-from-in-band) → c.less-metres.result * c.from-in-band.result ≤ most_reactor * most_price
+product : (c : goal.After-from-in-band) → c.saturating_sub-metres.result * c.from-in-band.result ≤ most_reactor * most_price
 product c =
     let valid = valid_tariff c.args.tariff.now c.requires.0 in
     let price : c.from-in-band.result ≤ most_price = rw c.from-in-band.ensures (valid.prices c.band.k c.band-test.true) in
-    let metres : c.less-metres.result ≤ most_reactor = omega arith in
+    let metres : c.saturating_sub-metres.result ≤ most_reactor = omega arith in
     mul-le-mul metres price
 
 pub overflow_mul-cost : goal.overflow_mul-cost
@@ -34,7 +34,7 @@ overflow_add-cost c =
 
 pub band-preserved : goal.band-preserved
 band-preserved c =
-    next c.args.tariff.now c.args.volume c.band.k c.band.charged c.band.cost _ _ _ _ c.band.invariant c.from.ensures c.from-in-band.ensures c.charge_end-end.ensures.0 c.less-metres.ensures
+    next c.args.tariff.now c.args.volume c.band.k c.band.charged c.band.cost _ _ _ _ c.band.invariant c.from.ensures c.from-in-band.ensures c.charge_end-end.ensures.0 c.saturating_sub-metres.ensures
 
 pub returns : goal.returns
 returns c =

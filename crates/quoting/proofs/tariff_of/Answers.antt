@@ -1,7 +1,7 @@
 -- The bands come one after the other. Assumes nothing.
 use Rattle.std.proofs.Common.{rules, ◌+◌}
 use Rattle.words.specs.Bytes.{word}
-use Rattle.request.proofs.FromFn.{from_fn_same}
+use Rattle.rules.proofs.FromFn.{from_fn_same}
 use Rattle.quoting.proofs.tariff_of.Goals as goal
 
 pub returns : goal.returns

@@ -3,7 +3,7 @@ use Rattle.std.proofs.Common.{rules, ◌+◌, ◌*◌}
 use Rattle.rules.specs.Consent.{no_term}
 use Rattle.request.specs.Frames.{term_words}
 use Rattle.request.specs.ConsentLayout.{term_of}
-use Rattle.request.proofs.FromFn.{from_fn_same}
+use Rattle.rules.proofs.FromFn.{from_fn_same}
 use Rattle.request.proofs.consent.Goals as goal
 
 pub returns : goal.returns

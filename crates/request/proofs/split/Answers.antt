@@ -3,7 +3,7 @@ use Rattle.std.proofs.Common.{rules, ◌+◌}
 use Rattle.words.specs.Bytes.{word, words_from}
 use Rattle.rules.specs.Sums.{values_from}
 use Rattle.request.specs.Frames.{data_words}
-use Rattle.request.proofs.FromFn.{from_fn_same}
+use Rattle.rules.proofs.FromFn.{from_fn_same}
 use Rattle.request.proofs.split.Goals as goal
 
 pub returns : goal.returns

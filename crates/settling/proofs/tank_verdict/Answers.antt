@@ -21,14 +21,14 @@ returns-in_err-rule c =
 pub returns-in_err-rule-2 : goal.returns-in_err-rule-2
 returns-in_err-rule-2 c =
     let p = err_from_is_err_and c.from_residual-in_err-rule-2.result c.from_residual-in_err-rule-2.ensures.1 in
-    let surface : ◌≡◌ {A = Verdict} (Err c.in_err-rule-2.field-0.0) (cond (leb c.args.settling.surface c.args.plant.now.site_surface) (Ok tt) (Err Refusal.Surface)) =
-    rw c.from.ensures at c.in_err-rule-2.ensures in
+    let surface : ◌≡◌ {A = Verdict} (Err c.in_err-rule-2.field-0.0) (cond (leb c.args.settling.now.surface c.args.plant.now.site_surface) (Ok tt) (Err Refusal.Surface)) =
+    rw (c.get.ensures.0, c.from.ensures) at c.in_err-rule-2.ensures in
     rw (p.1, p.2, ← c.solids_kept-solids.ensures) (broken _ _ _ surface ∙ kept _ _ _ c.in_ok-rule.ensures)
 
 pub returns : goal.returns
 returns c =
-    let surface : ◌≡◌ {A = Verdict} (Ok tt) (cond (leb c.args.settling.surface c.args.plant.now.site_surface) (Ok tt) (Err Refusal.Surface)) =
-    rw c.from.ensures at c.in_ok-rule-2.ensures in
-    let depth : c.rule-3.result ≡ cond (leb c.args.settling.depth c.args.plant.now.site_depth) (Ok tt) (Err Refusal.Depth) =
-    rw c.from-2.ensures at c.rule-3.ensures in
+    let surface : ◌≡◌ {A = Verdict} (Ok tt) (cond (leb c.args.settling.now.surface c.args.plant.now.site_surface) (Ok tt) (Err Refusal.Surface)) =
+    rw (c.get.ensures.0, c.from.ensures) at c.in_ok-rule-2.ensures in
+    let depth : c.rule-3.result ≡ cond (leb c.args.settling.now.depth c.args.plant.now.site_depth) (Ok tt) (Err Refusal.Depth) =
+    rw (c.get-2.ensures.0, c.from-2.ensures) at c.rule-3.ensures in
     rw (depth, ← c.solids_kept-solids.ensures) (kept _ _ _ surface ∙ kept _ _ _ c.in_ok-rule.ensures)

@@ -1,6 +1,5 @@
 -- `read_words` meets its contract: each turn reads the word at its index, and at the end each word is read. Assumes nothing.
 use Rattle.std.proofs.Common.{◌≡◌, ◌∙◌, length, ap, arith}
-use Rattle.std.proofs.Math.Nat.{zero-add}
 use Rattle.std.proofs.lemmas.List.Edits.{fill_by_more}
 use Rattle.words.specs.Bytes.{word}
 use Rattle.words.proofs.Stores.{words_by_index}
@@ -14,4 +13,4 @@ loop-i-preserved c =
 pub returns : goal.returns
 returns c =
     let all : length c.args.words.now ≡ length c.loop-i.words = omega arith in
-    rw all (words_by_index c.args.bytes.now c.loop-i.words 0 (λ k below. rw zero-add (c.loop-i.invariant k (omega arith))))
+    rw all (words_by_index c.args.bytes.now c.loop-i.words (λ k below. c.loop-i.invariant k (omega arith)))

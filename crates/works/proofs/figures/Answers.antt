@@ -50,18 +50,18 @@ whole w list summed filled sheets size e f =
     ∙ (stored_run sums rest list 0
     ∙ (sets_start (sums ++ rest) list (omega arith) ∙ (ap (λ (l : List ℕ). sums ++ rest ++ l) (none ∙ drop_of_length-le list {i = works_count} (omega arith)) ∙ append-nil (sums ++ rest)))))
 
-pub line-init : goal.line-init
-line-init c = refl
+pub loop-i-init : goal.loop-i-init
+loop-i-init c = refl
 
-pub line-preserved : goal.line-preserved
+pub loop-i-preserved : goal.loop-i-preserved
 unfolding empty_sheet
-line-preserved c =
-    next c.args.works.sheets c.line.figures _ c.line.i (omega arith) (c.store-in-line.ensures ∙ ap (sets c.line.figures (8 + 15 * c.line.i)) c.figures.ensures)
-    ∙ c.line.invariant
+loop-i-preserved c =
+    next c.args.works.sheets c.loop-i.figures _ c.loop-i.i (omega arith) (c.store-in-loop-i.ensures ∙ ap (sets c.loop-i.figures (8 + 15 * c.loop-i.i)) c.figures.ensures)
+    ∙ c.loop-i.invariant
 
 pub returns : goal.returns
 unfolding sum_figures
 returns c =
     let sheets = c.args.works.sheets in
-    let all = chunks_stored sheet_figures sheets c.line.figures _ (8 + 15 * c.line.i) c.line.i (omega arith) c.line.invariant in
-    whole c.args.works c.args.figures.now c.store.new.list c.line.figures (omega arith) c.told-figures c.store.ensures all
+    let all = chunks_stored sheet_figures sheets c.loop-i.figures _ (8 + 15 * c.loop-i.i) c.loop-i.i (omega arith) c.loop-i.invariant in
+    whole c.args.works c.args.figures.now c.store.new.list c.loop-i.figures (omega arith) c.told-figures c.store.ensures all

@@ -7,5 +7,5 @@ use Rattle.words.specs.Bytes.{chunked}
 use Rattle.rules.specs.Answers.{sheet_figures}
 use Rattle.works.proofs.figures.Given as goal
 
-abbrev pub invariant-line : goal.invariant-line
-invariant-line l = sets l.figures (8 + 15 * l.i) (chunked sheet_figures (drop l.i l.works.sheets)) ≡ sets l.initial.figures 8 (chunked sheet_figures l.works.sheets)
+abbrev pub invariant-loop-i : goal.invariant-loop-i
+invariant-loop-i l = sets l.figures (8 + 15 * l.i) (chunked sheet_figures (drop l.i l.fn.works.sheets)) ≡ sets l.initial.figures 8 (chunked sheet_figures l.fn.works.sheets)

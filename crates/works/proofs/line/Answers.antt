@@ -31,10 +31,14 @@ pub overflow_sub-number : goal.overflow_sub-number
 overflow_sub-number c =
     (known c.args.plant c.args.readings c.args.split c.args.number c.line_valid.ensures c.in_ok-accepted.accepted.concentrations c.in_ok-accepted.ensures.value).1.least
 
-pub line_answer-requires : goal.line_answer-requires
-line_answer-requires c =
-    let r = known c.args.plant c.args.readings c.args.split c.args.number c.line_valid.ensures c.in_ok-accepted.accepted.concentrations c.in_ok-accepted.ensures.value in
-    (r.0, omega (arith, r.1))
+pub invariant_of-lines : goal.invariant_of-lines
+invariant_of-lines c = record {
+  valid = (known c.args.plant c.args.readings c.args.split c.args.number c.line_valid.ensures c.in_ok-accepted.accepted.concentrations c.in_ok-accepted.ensures.value).0;
+}
+
+pub answer-requires : goal.answer-requires
+answer-requires c =
+    omega (arith, (known c.args.plant c.args.readings c.args.split c.args.number c.line_valid.ensures c.in_ok-accepted.accepted.concentrations c.in_ok-accepted.ensures.value).1)
 
 pub returns-in_err-accepted : goal.returns-in_err-accepted
 returns-in_err-accepted c =
@@ -43,6 +47,6 @@ returns-in_err-accepted c =
 
 pub returns : goal.returns
 returns c =
-    subst (LineAccepted (line_of c.args.plant c.args.split (c.args.number - 1)) c.line_answer.result)
+    subst (LineAccepted (line_of c.args.plant c.args.split (c.args.number - 1)) c.answer.result)
     (sym (answered c.args.plant c.args.readings c.args.split c.args.number c.line_valid.ensures _ c.in_ok-accepted.ensures.value))
-    (rw c.in_ok-accepted.ensures.plant at c.line_answer.ensures)
+    (rw c.in_ok-accepted.ensures.plant at c.answer.ensures)

@@ -4,7 +4,7 @@ use Rattle.std.proofs.lemmas.Iterator.{YieldsList-from_slice}
 use Rattle.std.proofs.lemmas.Iterator.Search.{all_from_yields_List}
 use lib.Dec.{leb}
 use lib.ListN.{take}
-use Rattle.works.proofs.Positive.{positive_all}
+use Rattle.works.proofs.Shares.{positive_all}
 use Rattle.works.proofs.shares_positive.Goals as goal
 
 pub returns : goal.returns

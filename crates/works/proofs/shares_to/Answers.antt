@@ -1,25 +1,23 @@
--- `shares_to` meets its contract. Assumes nothing.
-use mathlib.Core.Path.{◌≡◌, refl, ap, ◌∙◌}
-use Prim.Native.Nat.{◌<◌}
-use native.Mathlib.Omega.{arith}
-use Rattle.std.proofs.lemmas.List.{length-take, get_or-take}
-use Rattle.rules.specs.Sums.{sum_from}
-use Rattle.rules.specs.Lines.{shares_to}
-use Rattle.rules.proofs.LineLaws.{shares_step}
+-- `shares_to` meets its contract: the chain adds up the first shares, at most eight numbers of 32 bits. Assumes nothing.
+use Rattle.std.proofs.Common.{rules, arith, length, take, sym, ◌≤◌, ◌+◌, ◌∙◌}
+use Rattle.std.proofs.lemmas.Iterator.{YieldsList-from_slice, YieldsList-from_map}
+use Rattle.std.proofs.lemmas.Iterator.Adapters.{fits_from_length, at_most_from_yields_List}
+use Rattle.std.proofs.lemmas.Iterator.Consumers.{sum_by_from_yields_List}
+use Rattle.rules.specs.Limits.{most_lines}
+use Rattle.works.specs.Entries.{most_shares}
+use Rattle.works.proofs.Shares.{shares_sum}
 use Rattle.works.proofs.shares_to.Goals as goal
 
-pub line-init : goal.line-init
-unfolding shares_to sum_from
-line-init c = (refl, omega arith)
+few : (c : goal.After-map) → length (take c.args.lines c.args.split.now.shares) ≤ most_lines
+few c = search rules
 
-pub line-preserved : goal.line-preserved
-line-preserved c =
-    let below : c.line.share-index < c.args.lines = omega (arith, length-take c.args.lines c.args.split.now.shares) in
-    let here = get_or-take c.args.lines c.args.split.now.shares c.line.share-index 0 below in
-    let step = shares_step c.args.split.now c.line.share-index in
-    (omega arith, omega arith)
+pub sum-requires-clause-fits : goal.sum-requires-clause-fits
+sum-requires-clause-fits c =
+    fits_from_length _ _ most_lines _ (at_most_from_yields_List (YieldsList-from_slice _ cc) (few c)) c.map.ensures.closure (omega arith) (λ x r q k. search rules)
 
 pub returns : goal.returns
 returns c =
-    let all : c.line.share-index ≡ c.args.lines = omega (arith, length-take c.args.lines c.args.split.now.shares) in
-    (c.line.invariant.0 ∙ ap (shares_to c.args.split.now) all, omega (arith, c.line.invariant.1))
+    let run = c.sum.ensures.runs tt in
+    let most = fits_from_length _ _ most_lines (most_shares + 1) (at_most_from_yields_List (YieldsList-from_slice _ cc) (few c.before)) c.map.ensures.closure (omega arith) (λ x r q k. search rules) run.0 run.0.seen run.1 in
+    let sum = sum_by_from_yields_List (λ s. s) (take c.args.lines c.args.split.now.shares) _ _ c.sum.ensures.ran (YieldsList-from_map _ (λ s. s) (YieldsList-from_slice _ cc) c.map.ensures.closure (λ x r q k. search rules)) in
+    (sum ∙ sym (shares_sum c.args.split.now c.args.lines (omega arith)), omega (arith, most, run.3))

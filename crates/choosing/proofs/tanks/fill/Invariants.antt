@@ -5,4 +5,4 @@ use Rattle.choosing.specs.Tanks.{TimeFilledTo}
 use Rattle.choosing.proofs.tanks.fill.Given as goal
 
 abbrev pub invariant-ratio : goal.invariant-ratio
-invariant-ratio l = TimeFilledTo l.accepted.plant (l.thickened.time - least_time) (l.r - least_ratio) l.fn.table l.table
+invariant-ratio l = TimeFilledTo l.thickened.accepted.now.plant (l.thickened.time - least_time) (l.r - least_ratio) l.fn.table l.table

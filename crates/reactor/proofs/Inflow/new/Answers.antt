@@ -8,5 +8,5 @@ use Rattle.reactor.proofs.Inflow.new.Goals as goal
 pub returns : goal.returns
 unfolding inflow_of
 returns c =
-    let above : c.denitrified.result ≡ denitrified c.nitrified-nitrified.result c.args.accepted.now.plant.nitrate_target = rw (c.denitrified.ensures.0, c.from-nitrate_target.ensures) refl in
+    let above : c.denitrified.result ≡ denitrified c.nitrified-nitrified.result c.args.accepted.now.plant.nitrate_target = rw (c.denitrified.ensures, c.from.ensures) refl in
     grind (arith, common_steps)

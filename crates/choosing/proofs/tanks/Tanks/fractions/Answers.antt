@@ -12,7 +12,7 @@ fraction-preserved-in_default c =
     record {
       least =
           left_out d c.args.first c.fraction.f c.requires.0 c.fraction.lightest None c.fraction.best c.fraction.invariant.lightest
-          (sym c.in_default.ensures.0) tt c.fraction.invariant.least;
+          (sym (rw (c.new.ensures, c.from.ensures) at c.in_default.ensures)) tt c.fraction.invariant.least;
       lightest = later d c.args.first c.fraction.f c.fraction.lightest c.fraction.invariant.lightest;
     }
 
@@ -23,7 +23,7 @@ fraction-preserved-in-fraction c =
     record {
       least =
           left_out d c.args.first c.fraction.f c.requires.0 (Some c.in-Some-lightest.least) (Some c.in-Some.mass) c.fraction.best light
-          (sym c.in-Some.ensures.0) c.if-least-mass.true c.fraction.invariant.least;
+          (sym (rw (c.new.ensures, c.from.ensures) at c.in-Some.ensures)) (omega (arith, c.if-get.true, c.get.ensures.0, c.get-in-fraction.ensures.0)) c.fraction.invariant.least;
       lightest = later d c.args.first c.fraction.f (Some c.in-Some-lightest.least) light;
     }
 
@@ -35,7 +35,7 @@ fraction-preserved c =
       least =
           fraction_joined d c.args.first c.fraction.f c.fraction.best c.tank.of_fraction c.lesser-best.result c.fraction.auto.f c.fraction.invariant.least
           (rw (done, c.per_fraction-count.ensures.0) at c.tank.invariant) c.lesser-best.ensures;
-      lightest = (c.fraction.f, c.fraction.auto.f, omega arith, sym c.in-Some.ensures.0);
+      lightest = (c.fraction.f, c.fraction.auto.f, omega arith, sym (rw (c.new.ensures, c.from.ensures) at c.in-Some.ensures));
     }
 
 pub tank-preserved : goal.tank-preserved

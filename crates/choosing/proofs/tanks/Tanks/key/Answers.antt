@@ -11,4 +11,4 @@ pub returns : goal.returns
 returns c =
     one_key c.args.self.now.basis.now.data c.args.fraction c.args.mass c.args.i c.requires.1 c.requires.0 c.in_ok-tank.tank _
     c.in_ok-tank.ensures
-    (rw (c.reactor_volume-volume.ensures.0, c.from.ensures, c.from-2.ensures))
+    (rw (c.reactor_volume-volume.ensures.0, c.new.ensures, c.from.ensures, c.from-2.ensures))

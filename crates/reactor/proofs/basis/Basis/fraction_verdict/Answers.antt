@@ -6,6 +6,6 @@ use Rattle.reactor.proofs.basis.Basis.fraction_verdict.Goals as goal
 
 pub returns-in_err-rule : goal.returns-in_err-rule
 returns-in_err-rule c =
-    let r = c.args.reactor in
+    let r = c.args.reactor.now in
     let cover : c.covered-covered.result ≡ covered r.removes r.removed_by_dose r.denitrified = c.covered-covered.ensures in
     grind (arith, common_steps)
