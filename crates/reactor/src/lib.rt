@@ -45,7 +45,7 @@ pub struct Inflow {
 }
 
 // What does not depend on the fraction: the inflow's figures, the design, and the terms of the consent, as many as the count
-// says, zeros past it.
+// says; past it stands `Season::none`.
 #[derive(Clone, Copy)]
 pub struct Seasons {
     pub inflow: Inflow,

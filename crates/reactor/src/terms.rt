@@ -23,7 +23,7 @@ fn aerobic_share(aerobic: SludgeAge, age: SludgeAge) -> u64
     round_up(1000 * aerobic.get(), age.get())
 }
 
-// What entry i of the consent asks, with the plant's SF; zeros past the count. Each term counted stands in the list.
+// What entry i of the consent asks, with the plant's SF; `Season::none` past the count. Each term counted stands in the list.
 #[tactic(auto, unfolding(crate::specs::Seasons::season_at, crate::specs::Seasons::season_of))]
 fn term_season(accepted: &Accepted, factor: SafetyFactor, i: usize) -> Season
     requires { (factor ≡ safety_factor accepted.now.plant.load) × (i < most_terms) }

@@ -14,8 +14,8 @@ pub record Between (low high n : ℕ) : Type 0 where
   pub least : low ≤ n
   pub most : n ≤ high
 
--- a temperature of the plant data; a sludge volume index; a fraction, a return ratio of either
--- flow and a thickening time of the grid
+-- a temperature of the plant data; a sludge volume index; a fraction, a return ratio of either flow and a thickening time of the
+-- grid
 abbrev pub Temperature : ℕ → Type 0
 Temperature n = Between least_temperature most_temperature n
 
