@@ -1,10 +1,11 @@
 /*
  * Pewgull: dimensioning of single-stage activated sludge plants with nitrogen
- * removal. Fourteen calls, for x86-64 and its C calling convention (System V).
+ * removal. Seventeen calls, for x86-64 and its C calling convention (System V).
  *
  * Each call takes the bytes of a request, of a day log or of a sweep's state,
  * writes on a page that the caller lends, stores the number of bytes written
- * in *written, and gives a number. Later bytes of the page stay unchanged. No
+ * in *written, and gives a number. Later bytes of the page stay unchanged. The
+ * three calls for a length take no page and store the length of a listing. No
  * call allocates memory, keeps anything between calls, or reads or writes
  * anything else: what a sweep hands on is in the state, which the caller
  * keeps. Several threads may call at once, each with memory of its own; two
@@ -12,16 +13,17 @@
  * takes 9 kB of stack, a works 14 kB, a line of a works, an advance of a sweep
  * and a choice that is priced 10 kB; examining, also in a sweep or priced,
  * takes 4 kB, explaining, a census, a load, a target, existing tanks and the
- * start of a sweep 3 kB. The archive needs memcpy and memset, and nothing more.
+ * start of a sweep 3 kB, and the length of a listing as much as the call that
+ * writes it. The archive needs memcpy and memset, and nothing more.
  *
  * What the caller sees to
  *   - request points to request_length readable bytes, log to log_length,
  *     state to state_length; page points to page_length writable bytes, and
  *     state to writable ones where a sweep is started or advanced; written
- *     points to a uint64_t. None of them is a null pointer, also where a
- *     length is 0.
- *   - The page, *written and a state that is written overlap neither the
- *     request, log or state that is read nor each other.
+ *     and length point to a uint64_t. None of them is a null pointer, also
+ *     where a length is 0.
+ *   - The page, *written, *length and a state that is written overlap neither
+ *     the request, log or state that is read nor each other.
  *   - No alignment is needed for the request, the log, the state or the page.
  *
  * The request, version 4: 32-bit unsigned numbers, little-endian, no padding.
@@ -142,7 +144,8 @@ extern "C" {
 /* Most candidates of an advance. */
 #define PEWGULL_ADVANCE_MOST 1000
 
-/* A page of this length takes every listing. */
+/* A page of this length takes every listing; pewgull_length_choose and its
+ * like give the length of one. */
 #define PEWGULL_PAGE_LENGTH 512
 
 /* Bytes that pewgull_explain writes, and the least length of its page. */
@@ -498,6 +501,31 @@ uint32_t pewgull_price_choose(const uint8_t *request, size_t request_length,
 uint32_t pewgull_price_examine(const uint8_t *request, size_t request_length,
                                uint8_t *page, size_t page_length,
                                uint64_t *written);
+
+/*
+ * Gives how many bytes the listing takes that pewgull_examine writes for the
+ * same request, without writing it, so that a printer can reserve paper or a
+ * caller lend a page that just fits. Gives the number that pewgull_examine
+ * gives, a refusal's too, which has a listing of its own, and stores the length
+ * in *length, at most 432. On a page of that length or a longer one
+ * pewgull_examine gives this number and stores this length in *written; on a
+ * page of fewer bytes it gives 11. Gives 101 to 103 and stores 0.
+ */
+uint32_t pewgull_length_examine(const uint8_t *request, size_t request_length,
+                                uint64_t *length);
+
+/*
+ * The same for pewgull_choose, and so for the listing that a finished sweep
+ * over the same data writes.
+ */
+uint32_t pewgull_length_choose(const uint8_t *request, size_t request_length,
+                               uint64_t *length);
+
+/*
+ * The same for pewgull_line.
+ */
+uint32_t pewgull_length_line(const uint8_t *request, size_t request_length,
+                             uint64_t *length);
 
 /*
  * Starts a sweep for a request of PEWGULL_CHOOSE_LENGTH bytes: a choice that

@@ -51,7 +51,7 @@ works_put w page = put_on (answer_number w) (number_bytes (works_figures (works_
 abbrev pub WorksAsked : List ℕ → List ℕ → Outcome → Type 0
 WorksAsked bytes page o = Answering (WorksFor (asked_split bytes)) works_put page o (decode bytes works_words)
 
--- a request for one line of a works: the listing of that line's own answer, which is one (`line_once`)
+-- a request for one line of a works: the listing of that line's own answer, which is one (`line_answered_once`)
 abbrev pub LineFor : Split → ℕ → Data → Answer → Type 0
 LineFor split number x a = LineAnswered x.plant x.readings split number a
 

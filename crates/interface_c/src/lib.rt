@@ -2,11 +2,12 @@
 // number of bytes written there. C asks for a function of its own for each call, and for a number beside a count.
 #![tactic(auto)]
 
-ghost use Rattle.std.specs.Prelude.{◌≡◌};
+ghost use Rattle.std.specs.Prelude.{◌≡◌, []};
 ghost use Rattle.putting.specs.Outcomes.{outcome};
 ghost use Rattle.resuming.specs.States.{started_on, resumed, AdvancedOn, looked_on};
 ghost use Rattle.standing.specs.Tanks.{BuiltOn};
 ghost use Rattle.quoting.specs.Quotes.{ChosenAndPriced, examined_and_priced};
+ghost use Rattle.measuring.specs.Lengths.{examined_length, ChoosingLength, LineLength};
 ghost use Rattle.interface.specs.Calls.{examined, Choosing, WorksAsked, LineAsked, explained, censused, targeted, loaded};
 
 use rules::Candidate;
@@ -144,4 +145,31 @@ pub extern "C" fn pewgull_price_examine(request: &[u8], page: &mut [u8], written
     ensures { outcome result page.new written.new ≡ examined_and_priced request.now page.old }
 {
     putting::finish(quoting::examine(request, page), written)
+}
+
+// The length of the listing of what `pewgull_examine` answers, and the number that it gives. A malformed request is answered by 101 to 103,
+// with the length 0.
+#[unsafe(no_mangle)]
+pub extern "C" fn pewgull_length_examine(request: &[u8], length: &mut u64) -> u32
+    ensures { outcome result [] length.new ≡ examined_length request.now }
+{
+    putting::finish(measuring::examine(request), length)
+}
+
+// The length of the listing of what `pewgull_choose` answers, and the number that it gives. A malformed request is answered by 101 to 103,
+// with the length 0.
+#[unsafe(no_mangle)]
+pub extern "C" fn pewgull_length_choose(request: &[u8], length: &mut u64) -> u32
+    ensures { ChoosingLength request.now (outcome result [] length.new) }
+{
+    putting::finish(measuring::choose(request), length)
+}
+
+// The length of the listing of what `pewgull_line` answers, and the number that it gives. A malformed request is answered by 101 to 103,
+// with the length 0.
+#[unsafe(no_mangle)]
+pub extern "C" fn pewgull_length_line(request: &[u8], length: &mut u64) -> u32
+    ensures { LineLength request.now (outcome result [] length.new) }
+{
+    putting::finish(measuring::line(request), length)
 }

@@ -1,16 +1,17 @@
 -- The two outcomes of writing a listing, by the test of its length: it fits, or it is longer than the page.
 -- Assumes nothing.
-use mathlib.Core.Path.{◌≡◌, sym, ap, ◌∙◌}
-use mathlib.Core.List.{List, ◌++◌}
+use mathlib.Core.Path.{◌≡◌, refl, sym, ap, ◌∙◌}
+use mathlib.Core.List.{List, ◌++◌, append-nil}
 use Prim.Native.Nat.{ℕ, ◌≤◌, ◌<◌}
 use native.Mathlib.Nat.{zero-add}
 use native.Mathlib.Decide.{dec_le}
 use native.Mathlib.Omega.{arith}
-use lib.ListN.{length, drop, length-append}
+use lib.ListN.{length, drop, length-append, drop_of_length-le}
 use lib.Seq.{sets, sets-eq}
 use borrow.Author.Tests.{le-leb, lt-leb}
-use Rattle.std.specs.Prelude.{Ok, Err}
-use Rattle.rules.specs.Listing.{listing, writing, page_after}
+use Rattle.std.specs.Prelude.{Result, Ok, Err}
+use Rattle.rules.specs.Listing.{listing, listing_length, writing, page_after}
+use Rattle.rules.specs.Outcomes.{ByLength}
 use Rattle.rules.specs.declared.Refusal.{Refusal}
 use Rattle.rules.specs.Results.{Answer}
 use Rattle.listing.specs.Pages.{Writes}
@@ -50,6 +51,23 @@ pub too_long :
     (answer : Answer) (page : List ℕ) → length page < length (listing answer)
     → Writes answer page page (Err Refusal.ShortPage)
 too_long answer page long = record { result = sym (writing_long (listing answer) page long); page = sym (page_long (listing answer) page long) }
+
+-- a page of just the listing's length, and one a byte shorter
+pub by_length :
+    (answer : Answer) (before after : List ℕ) (r : Result ℕ Refusal) → Writes answer before after r
+    → ByLength answer before after r
+by_length answer before after r w =
+    record {
+      exact = λ e.
+          let room : listing_length answer ≤ length before = omega (arith, e) in
+          let end : length before ≤ listing_length answer = omega (arith, e) in (
+            w.result ∙ writing_fits (listing answer) before room,
+            w.page ∙ page_fits (listing answer) before room ∙ rw (drop_of_length-le before end, append-nil) refl,
+          );
+      one_byte_short = λ e.
+          let short : length before < listing_length answer = omega (arith, e) in
+          (w.result ∙ writing_long (listing answer) before short, w.page ∙ page_long (listing answer) before short);
+    }
 
 -- a number of bytes that writing gives is within the page
 pub bytes_within :

@@ -6,8 +6,8 @@
 ghost use Rattle.std.specs.Prelude.{◌≡◌, ◌+◌, ◌≤◌, length};
 ghost use Rattle.std.proofs.lemmas.List.Edits.{sets};
 ghost use Rattle.rules.specs.Answers.{refusal_number, answer_number, sheet_figures};
-ghost use Rattle.rules.specs.Listing.{listing, numeral};
-ghost use Rattle.listing.specs.Pages.{Writes};
+ghost use Rattle.rules.specs.Listing.{listing, listing_length, longest_listing, numeral};
+ghost use Rattle.listing.specs.Pages.{Writes, SheetFits};
 ghost use Rattle.listing.specs.Forms.{filled};
 
 use rules::{Answer, Refusal, Sheet};
@@ -31,10 +31,11 @@ pub fn answer_number<T: Copy>(answer: Result<T, Refusal>) -> u64
     }
 }
 
-// The fifteen figures of a sheet, in the listing's order: fields have none.
+// The fifteen figures of a sheet, in the listing's order: fields have none. Each has 64 bits.
 #[tactic(auto, unfolding(rules::specs::Answers::sheet_figures))]
 pub fn figures(sheet: Sheet) -> [u64; 15]
-    ensures { result ≡ sheet_figures sheet }
+    ensures value { result ≡ sheet_figures sheet }
+    ensures fits { SheetFits sheet }
 {
     [
         sheet.fraction,
@@ -114,7 +115,8 @@ struct Listing {
 impl Listing {
     // An answer's listing. A refusal's form has a mark for the first figure alone.
     fn new(answer: Answer) -> Listing
-        ensures { filled result.form.now result.figures ≡ listing answer }
+        ensures value { filled result.form.now result.figures ≡ listing answer }
+        ensures most { listing_length answer ≤ longest_listing }
     {
         match answer {
             Ok(sheet) => Listing {
@@ -168,9 +170,10 @@ impl Listing {
     }
 }
 
-// The length of an answer's listing.
+// How many bytes an answer's listing takes.
 pub fn length(answer: Answer) -> usize
-    ensures { result ≡ length (listing answer) }
+    ensures value { result ≡ listing_length answer }
+    ensures most { result ≤ longest_listing }
 {
     Listing::new(answer).length()
 }

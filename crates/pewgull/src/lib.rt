@@ -3,7 +3,7 @@
 // what a call here adds to the function that it hands on to. Plant and readings come apart, as document 01 has them.
 #![tactic(auto)]
 
-ghost use Rattle.std.specs.Prelude.{◌≡◌};
+ghost use Rattle.std.specs.Prelude.{◌≡◌, ◌≤◌};
 ghost use Rattle.rules.specs.Examining.{examine};
 ghost use Rattle.rules.specs.Choosing.{Chosen};
 ghost use Rattle.rules.specs.Explaining.{explain};
@@ -14,7 +14,8 @@ ghost use Rattle.rules.specs.TargetOutcome.{TargetOutcome};
 ghost use Rattle.rules.specs.Census.{census, census_counts, CensusOutcome};
 ghost use Rattle.rules.specs.DayLog.{two_week_load, load_of};
 ghost use Rattle.rules.specs.DayLogOutcome.{LoadOutcome};
-ghost use Rattle.rules.specs.Outcomes.{Examined, ChosenOutcome, ExplainedOutcome, WritingOutcome};
+ghost use Rattle.rules.specs.Listing.{listing_length, longest_listing};
+ghost use Rattle.rules.specs.Outcomes.{Examined, ChosenOutcome, ExplainedOutcome, WritingOutcome, ByLength};
 ghost use Rattle.rules.specs.TwoColumns.{TwoColumns};
 ghost use Rattle.rules.specs.Lines.{LineAnswered};
 ghost use Rattle.rules.specs.Works.{WorksChosen, works_sheets};
@@ -144,6 +145,15 @@ pub fn load(log: &[u8]) -> Result<TwoWeekLoad, Refusal>
 pub fn write(answer: Answer, page: &mut [u8]) -> Result<usize, Refusal>
     ensures writes { Writes answer page.old page.new result }
     ensures numbered { WritingOutcome answer page.old (answer_number result) (written_count result) }
+    ensures by_length { ByLength answer page.old page.new result }
 {
     listing::write(answer, page)
+}
+
+// How many bytes the listing of an answer takes, without writing it.
+pub fn length(answer: Answer) -> usize
+    ensures value { result ≡ listing_length answer }
+    ensures most { result ≤ longest_listing }
+{
+    listing::length(answer)
 }

@@ -88,6 +88,18 @@ line_with_columns p r split number (Ok s) h = go (accept_line p r split number) 
         let given = accepted_kept (line_rules p r split number) (values_of p r) x q in
         subst (λ (y : Concentrations). Removes line y s.fraction) (sym given.1) (line_columns line x s (designed_line line x s c))
 
+-- The question for a line has one answer.
+pub line_answered_once :
+    (p : Plant) (r : Readings) (split : Split) (number : ℕ) (a b : Answer) → LineAnswered p r split number a → LineAnswered p r split number b → a ≡ b
+line_answered_once p r split number a b = go (accept_line p r split number)
+  where
+    line : Plant
+    line = line_of p split (number - 1)
+
+    go : (o : Acceptance) → LineAccepted line a o → LineAccepted line b o → a ≡ b
+    go (Err n) c d = c ∙ sym d
+    go (Ok x) c d = line_once line x a b c d
+
 -- for a line of the works the data are accepted as for the works
 accept_same : (p : Plant) (r : Readings) (split : Split) (number : ℕ) → within 1 split.count number ≡ true → accept_line p r split number ≡ accept_works p r split
 unfolding accept_line line_rules accept_works works_rules

@@ -49,6 +49,14 @@ unfoldable pub listing : Answer → List ℕ
 listing (Ok s) = sheet_listing s
 listing (Err n) = line "refused" (refusal_number n)
 
+-- document 02, item 13: how many bytes an answer's listing takes; and a bound for all of them, whose figures have 64 bits
+-- (listing/proofs/Longest.antt)
+abbrev pub listing_length : Answer → ℕ
+listing_length a = length (listing a)
+
+abbrev pub longest_listing : ℕ
+longest_listing = 432
+
 -- what writing gives: the number of bytes, or 11 where the listing is longer than the page
 unfoldable pub writing : List ℕ → List ℕ → Result ℕ Refusal
 writing bytes page = cond (leb (length bytes) (length page)) (Ok (length bytes)) (Err Refusal.ShortPage)

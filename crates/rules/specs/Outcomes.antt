@@ -1,7 +1,7 @@
 -- What the calls promise of the number, the sheet, the figures and the count that they give: a complete sheet, or one
 -- numbered refusal with zeros. It names the rules and the steps, not the order in which an answer is computed.
 -- Assumes nothing.
-use Rattle.std.specs.Prelude.{ℕ, ◌≤◌, ◌<◌, ◌⊎◌, ◌≡◌, List, [], ◌∷◌, T, length}
+use Rattle.std.specs.Prelude.{ℕ, suc, ◌≤◌, ◌<◌, ◌⊎◌, ◌≡◌, List, [], ◌∷◌, T, length, Result, Ok, Err}
 use Rattle.rules.specs.Rules.{all_kept, FirstBroken}
 use Rattle.rules.specs.Accepting.{values_of, data_rules}
 use Rattle.rules.specs.Examining.{sheet_of, permitted, examination_rules}
@@ -9,7 +9,7 @@ use Rattle.rules.specs.Answers.{refusal_number, sheet_figures}
 use Rattle.rules.specs.Explanations.{explained_figures}
 use Rattle.rules.specs.Choosing.{grid, Least}
 use Rattle.rules.specs.Explaining.{candidate_explained, explanation_rules}
-use Rattle.rules.specs.Listing.{listing}
+use Rattle.rules.specs.Listing.{listing, listing_length}
 use Rattle.rules.specs.declared.Plant.{Plant}
 use Rattle.rules.specs.declared.Readings.{Readings}
 use Rattle.rules.specs.declared.Candidate.{Candidate}
@@ -71,5 +71,11 @@ ExplainedOutcome p r y number figures =
 
 -- writing: 0 and the listing's length where it fits the page, else 11 and 0
 pub record WritingOutcome (answer : Answer) (page : List ℕ) (number count : ℕ) : Type 0 where
-  pub fits : length (listing answer) ≤ length page → (number ≡ 0) × (count ≡ length (listing answer))
-  pub short : length page < length (listing answer) → (number ≡ 11) × (count ≡ 0)
+  pub fits : listing_length answer ≤ length page → (number ≡ 0) × (count ≡ listing_length answer)
+  pub short : length page < listing_length answer → (number ≡ 11) × (count ≡ 0)
+
+-- Item 13, writing by the listing's length: a page of just that length is never refused, and is the listing to its last byte; a
+-- page one byte shorter always gets 11, and stays as it was
+pub record ByLength (answer : Answer) (before after : List ℕ) (r : Result ℕ Refusal) : Type 0 where
+  pub exact : length before ≡ listing_length answer → (r ≡ Ok (listing_length answer)) × (after ≡ listing answer)
+  pub one_byte_short : suc (length before) ≡ listing_length answer → (r ≡ Err Refusal.ShortPage) × (after ≡ before)

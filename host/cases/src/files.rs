@@ -4,7 +4,7 @@ use crate::collection::{Case, Operation};
 use crate::model::Outcome;
 
 /// Largest size of the stored requests.
-pub const MOST_BYTES: usize = 550_000;
+pub const MOST_BYTES: usize = 600_000;
 
 /// A case as a record of stdin: operation, page length, request's length,
 /// request.

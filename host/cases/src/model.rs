@@ -67,6 +67,44 @@ pub fn choose(request: &[u8], page_length: usize) -> Outcome {
     }
 }
 
+/// The number of an answer, and how many bytes its listing takes.
+fn measured(answer: &Answer) -> (u32, u64) {
+    (u32::from(answer.number()), reference::length(answer) as u64)
+}
+
+/// The length of what examining lists, 0 for a malformed request.
+pub fn length_examine(request: &[u8]) -> (u32, u64) {
+    match decode(request, EXAMINE_LENGTH) {
+        Err(fault) => (fault, 0),
+        Ok(data) => measured(&reference::examine(
+            &data.plant,
+            &data.readings,
+            data.candidate,
+        )),
+    }
+}
+
+/// The same of choosing.
+pub fn length_choose(request: &[u8]) -> (u32, u64) {
+    match decode(request, CHOOSE_LENGTH) {
+        Err(fault) => (fault, 0),
+        Ok(data) => measured(&reference::choose(&data.plant, &data.readings)),
+    }
+}
+
+/// The same of a line's own answer.
+pub fn length_line(request: &[u8]) -> (u32, u64) {
+    match decode_works(request, LINE_LENGTH) {
+        Err(fault) => (fault, 0),
+        Ok(data) => measured(&reference::line(
+            &data.plant,
+            &data.readings,
+            &data.split,
+            data.line,
+        )),
+    }
+}
+
 /// The figures that the rules 7 to 10 ask of, and the number of the first rule
 /// that is broken, a term's included.
 fn of_candidate(stages: &Stages, verdict: u8) -> [u64; OF_CANDIDATE] {

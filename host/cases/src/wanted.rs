@@ -312,8 +312,23 @@ const WANTED_PRICES: [Wanted; 35] = [
     ("price, unknown kind", 4, &[103]),
 ];
 
+const WANTED_LENGTHS: [Wanted; 8] = [
+    ("digits of a figure", 24, &[0]),
+    ("digits of a figure, short", 24, &[11]),
+    ("below a power of ten", 25, &[0]),
+    ("below a power of ten, short", 25, &[11]),
+    ("power of ten", 25, &[0]),
+    ("power of ten, short", 25, &[11]),
+    (
+        "length of a refusal",
+        13,
+        &[1, 2, 3, 4, 6, 7, 8, 9, 10, 14, 15, 16, 17],
+    ),
+    ("length of a refusal, short", 13, &[11]),
+];
+
 /// Everything that is wanted.
-const EVERY_KIND: [&[Wanted]; 9] = [
+const EVERY_KIND: [&[Wanted]; 10] = [
     &WANTED,
     &WANTED_TERMS,
     &WANTED_BULKING,
@@ -323,6 +338,7 @@ const EVERY_KIND: [&[Wanted]; 9] = [
     &WANTED_PAGES,
     &WANTED_BUILT,
     &WANTED_PRICES,
+    &WANTED_LENGTHS,
 ];
 
 const EXAMINE_NUMBERS: &[u32] = &[0, 1, 2, 3, 4, 6, 7, 8, 9, 10, 11, 14, 15, 16, 17, 102, 103];

@@ -5,6 +5,7 @@ pub mod cod;
 pub mod compare;
 pub mod counts;
 pub mod guarded;
+pub mod lengths;
 pub mod logs;
 pub mod prices;
 pub mod requests;

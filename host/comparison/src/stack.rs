@@ -97,6 +97,49 @@ pub fn stack_of_examination(state: &[u8]) -> (u32, usize) {
     stack_of(examine, state, &mut [0; PAGE_LENGTH])
 }
 
+/// The length of what is chosen, in the shape of a `Call`.
+///
+/// Safety: as for the archive's function.
+unsafe extern "C" fn length_of_choice(
+    request: *const u8,
+    request_length: usize,
+    _: *mut u8,
+    _: usize,
+    length: *mut u64,
+) -> u32 {
+    library::LENGTH_CHOOSE(request, request_length, length)
+}
+
+/// The same of a candidate.
+///
+/// Safety: as for the archive's function.
+unsafe extern "C" fn length_of_candidate(
+    request: *const u8,
+    request_length: usize,
+    _: *mut u8,
+    _: usize,
+    length: *mut u64,
+) -> u32 {
+    library::LENGTH_EXAMINE(request, request_length, length)
+}
+
+/// The same of a line of a works.
+///
+/// Safety: as for the archive's function.
+unsafe extern "C" fn length_of_line(
+    request: *const u8,
+    request_length: usize,
+    _: *mut u8,
+    _: usize,
+    length: *mut u64,
+) -> u32 {
+    library::LENGTH_LINE(request, request_length, length)
+}
+
+/// The calls for a length, whose stack is taken as that of any call: of what is
+/// chosen, of a candidate and of a line. A few words of it are their caller's.
+pub const LENGTHS: [Call; 3] = [length_of_choice, length_of_candidate, length_of_line];
+
 /// Calls with the stack some frames of at least 256 bytes further down.
 #[inline(never)]
 pub fn further_down<T>(frames: usize, call: &mut dyn FnMut() -> T) -> T {

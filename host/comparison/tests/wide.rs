@@ -2,6 +2,8 @@
 
 #[path = "wide/built.rs"]
 mod built;
+#[path = "wide/lengths.rs"]
+mod lengths;
 #[path = "wide/prices.rs"]
 mod prices;
 #[path = "wide/sweeps.rs"]
@@ -17,7 +19,7 @@ use comparison::compare::{agree, compare, compare_census, compare_lines, expecte
 use comparison::counts::{in_parts, settle, Found};
 use comparison::logs;
 use comparison::requests;
-use comparison::stack::{stack_of, stack_of_advance, stack_of_examination};
+use comparison::stack::{stack_of, stack_of_advance, stack_of_examination, LENGTHS};
 use comparison::sweep_calls::grid_number;
 use comparison::targets;
 use comparison::works::{self, Divided};
@@ -552,6 +554,13 @@ fn stack_as_stated() {
         ] {
             let (_, taken) = stack_of(call, bytes, &mut [0; WORKS_PAGE]);
             within_stated(taken, stated);
+        }
+        for (call, bytes, stated) in [
+            (LENGTHS[0], &choose, 9_000),
+            (LENGTHS[1], &examine, 4_000),
+            (LENGTHS[2], &line, 10_000),
+        ] {
+            within_stated(stack_of(call, bytes, &mut []).1, stated);
         }
         let last = grid_number(&request) - library::ADVANCE_MOST;
         for number in [0, 40_000, last] {

@@ -82,6 +82,42 @@ calls! {
     sweep_start, SWEEP_START: pewgull_sweep_start;
 }
 
+/// Pointer and length of the request, and where the listing's length goes.
+pub type LengthCall = unsafe extern "C" fn(*const u8, usize, *mut u64) -> u32;
+
+/// Declares the archive's functions for the length of a listing in the same way.
+macro_rules! lengths {
+    ($($(#[$doc:meta])* $safe:ident, $raw:ident: $symbol:ident;)*) => {
+        extern "C" {
+            $(fn $symbol(request: *const u8, request_length: usize, length: *mut u64) -> u32;)*
+        }
+
+        $($(#[$doc])*
+        ///
+        /// Gives the answer's number and the length of its listing.
+        pub fn $safe(request: &[u8]) -> (u32, u64) {
+            let mut length = 0;
+            // Safety: as in `call`.
+            let number = unsafe { $symbol(request.as_ptr(), request.len(), &mut length) };
+            (number, length)
+        }
+
+        /// The archive's function itself.
+        pub const $raw: LengthCall = $symbol;)*
+    };
+}
+
+lengths! {
+    /// How many bytes `examine` writes for a request of `EXAMINE_LENGTH` bytes.
+    length_examine, LENGTH_EXAMINE: pewgull_length_examine;
+
+    /// How many bytes `choose` writes for a request of `CHOOSE_LENGTH` bytes.
+    length_choose, LENGTH_CHOOSE: pewgull_length_choose;
+
+    /// How many bytes `line` writes for a request of `LINE_LENGTH` bytes.
+    length_line, LENGTH_LINE: pewgull_length_line;
+}
+
 extern "C" {
     fn pewgull_sweep_advance(
         state: *mut u8,

@@ -17,10 +17,12 @@ mod works;
 
 pub use built::{Built, Existing, Span, BUILT_PAGE, LEAST_INDEX, LEAST_SIZE, MOST_INDEX};
 pub use calls::{built, census, choose, examine, explain, line, load, target, works};
+pub use calls::{length_choose, length_examine, length_line};
 pub use calls::{price_choose, price_examine, PRICE_CHOOSE, PRICE_EXAMINE};
 pub use calls::{sweep_advance, sweep_examine, sweep_start};
 pub use calls::{AdvanceCall, ExamineCall, SWEEP_ADVANCE, SWEEP_EXAMINE, SWEEP_START};
 pub use calls::{Call, BUILT, CENSUS, CHOOSE, EXAMINE, EXPLAIN, LINE, LOAD, TARGET, WORKS};
+pub use calls::{LengthCall, LENGTH_CHOOSE, LENGTH_EXAMINE, LENGTH_LINE};
 pub use census::{Census, CENSUS_LENGTH, COUNTED};
 pub use figures::{Figures, TermFigures, FIGURES_LENGTH};
 pub use load::{day_log, Day, Load, LEAST_DAYS, LOAD_PAGE, MOST_BOD, MOST_DAYS, MOST_FLOW};

@@ -193,6 +193,33 @@ pub fn built(request: &Request, existing: &Existing, span: &Span) -> Answer {
     }
 }
 
+/// The answer of `length`: how many bytes `choose` prints, or `examine` of the
+/// candidate, also where that is a refusal, which a remark then tells of.
+pub fn length(
+    request: &Request,
+    candidate: Option<Candidate>,
+    words: impl FnOnce(u32) -> String,
+) -> Answer {
+    let (number, length) = match candidate {
+        None => library::length_choose(&request.to_choose()),
+        Some(candidate) => library::length_examine(&request.to_examine(candidate)),
+    };
+    if number != SHEET && !number::is_refusal(number) {
+        return refused(number);
+    }
+    let text = format!("length {length}\n");
+    let mut members = json::members(&text);
+    members.push(json::number("number", number));
+    members.push(json::text("word", number::word(number).unwrap_or_default()));
+    Answer {
+        number: SHEET,
+        kind: "length",
+        members,
+        text: text.into_bytes(),
+        remark: (number != SHEET).then(|| format!("the listing is no sheet: {}", words(number))),
+    }
+}
+
 /// The answer of `price`: what the design chosen or a candidate costs; its
 /// sheet is among the members alone.
 pub fn price(request: &Request, candidate: Option<Candidate>, tariff: &Tariff) -> Answer {

@@ -30,10 +30,13 @@ pub enum Action {
     Built(fn(&Request, &Existing, &Span) -> Answer),
     /// One plant and one tariff, with a candidate or without
     Price,
+    /// `FILE [F R H]`: one plant, with a candidate or without
+    Length,
 }
 
 pub struct Form {
     pub name: &'static str,
+    /// What it prints
     pub about: &'static str,
     pub action: Action,
 }
@@ -42,53 +45,58 @@ pub struct Form {
 pub const COMMANDS: &[Form] = &[
     Form {
         name: "choose",
-        about: "prints the sheet of the permitted design of least volume",
+        about: "the sheet of the permitted design of least volume",
         action: Action::Plants(answer::choose),
     },
     Form {
         name: "examine",
-        about: "prints the sheet of one candidate, or the number of its refusal",
+        about: "the sheet of one candidate, or its refusal's number",
         action: Action::Candidate(answer::examine),
     },
     Form {
         name: "explain",
-        about: "prints the figures a candidate is judged by, beside their limits",
+        about: "the figures a candidate is judged by, and their limits",
         action: Action::Candidate(answer::explain),
     },
     Form {
         name: "census",
-        about: "prints how many candidates are permitted, and how many each rule stops",
+        about: "how many candidates are permitted, how many stopped",
         action: Action::Plants(answer::census),
     },
     Form {
         name: "load",
-        about: "prints the highest 14-day load of a day log, with --csv of a text file",
+        about: "the highest 14-day load of a day log, or a text file",
         action: Action::Logs(answer::load),
     },
     Form {
         name: "target",
-        about: "prints the lowest nitrate target in force on a day, by the file's terms",
+        about: "the lowest nitrate target in force on that day",
         action: Action::Date(answer::target),
     },
     Form {
         name: "works",
-        about: "prints the sums of a works in several lines, and the sheet of each line",
+        about: "the sums of a works in several lines, and each sheet",
         action: Action::Works(answer::works),
     },
     Form {
         name: "sweep",
-        about: "prints what choose does, by N at a time; with --state can be put down",
+        about: "what choose prints, by N at a time; can be put down",
         action: Action::Sweep,
     },
     Form {
         name: "built",
-        about: "says if REACTOR m3, SURFACE m2, DEPTH mm hold every SVI of LEAST..MOST",
+        about: "if these m3, m2 and mm hold every SVI of LEAST..MOST",
         action: Action::Built(answer::built),
     },
     Form {
         name: "price",
-        about: "prints the price in cents by a tariff file: of the choice, or of F R H",
+        about: "the price in cents, of the choice or of F R H",
         action: Action::Price,
+    },
+    Form {
+        name: "length",
+        about: "how many bytes choose prints, or examine of F R H",
+        action: Action::Length,
     },
 ];
 
@@ -103,6 +111,7 @@ impl Form {
             Action::Sweep => "FILE [--by N] [--state FILE]",
             Action::Built(_) => "FILE REACTOR SURFACE DEPTH F H LEAST MOST",
             Action::Price => "FILE TARIFF [F R H]",
+            Action::Length => "FILE [F R H]",
         }
     }
 
@@ -151,6 +160,10 @@ impl Form {
             Action::Price => {
                 let (file, options) = self.file_and_tariff(words)?;
                 Ok((Task::Price(options), vec![file]))
+            }
+            Action::Length => {
+                let (file, candidate) = self.file_and_any_candidate(words)?;
+                Ok((Task::Length(candidate), vec![file]))
             }
         }
     }
@@ -219,6 +232,26 @@ impl Form {
         Ok((file.clone(), price::Options { tariff, candidate }))
     }
 
+    /// FILE [F R H].
+    fn file_and_any_candidate(
+        &self,
+        words: &[OsString],
+    ) -> Result<(OsString, Option<Candidate>), String> {
+        match words {
+            [file] => Ok((file.clone(), None)),
+            [file, fraction, return_ratio, thickening] => {
+                let candidate = candidate([fraction, return_ratio, thickening])?;
+                Ok((file.clone(), Some(candidate)))
+            }
+            _ => Err(usage(&format!(
+                "expected {} {}, one file and three numbers or none (words given: {})",
+                self.name,
+                self.words(),
+                words.len()
+            ))),
+        }
+    }
+
     /// One file or more.
     fn files(&self, words: &[OsString]) -> Result<Vec<OsString>, String> {
         match words.is_empty() {
@@ -242,6 +275,8 @@ pub enum Task {
     Sweep(sweep::Options),
     Built(fn(&Request, &Existing, &Span) -> Answer, Existing, Span),
     Price(price::Options),
+    /// The candidate whose listing is measured; none: the design chosen
+    Length(Option<Candidate>),
 }
 
 /// A command with its words.

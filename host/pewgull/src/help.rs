@@ -14,28 +14,28 @@ use library::{ADVANCE_MOST, STATE_LENGTH};
 use library::{COUNTED, KIT, MOST_TERMS, SUMS, VERSION};
 use library::{LEAST_DAYS, MOST_BOD, MOST_DAYS, MOST_FLOW};
 
-/// A line for the commands that take the same words.
-fn usage() -> String {
-    let mut lines: Vec<(String, &str)> = Vec::new();
+const USAGE: &str = "\
+Usage: pewgull COMMAND [--json] WORDS, where COMMAND WORDS is one of these:
+";
+
+/// Columns of a command and its words before what it prints.
+const WIDTH: usize = 26;
+
+/// A line for each command with its words, or two where they are many.
+fn commands() -> String {
+    let mut text = String::new();
     for form in COMMANDS {
-        match lines.iter_mut().find(|(_, words)| *words == form.words()) {
-            Some((names, _)) => *names += &format!("|{}", form.name),
-            None => lines.push((form.name.to_string(), form.words())),
+        let head = format!("{} {}", form.name, form.words());
+        if head.len() < WIDTH {
+            text += &format!("{head:<WIDTH$}{}\n", form.about);
+        } else {
+            text += &format!("{head}\n{:WIDTH$}{}\n", "", form.about);
         }
     }
-    let mut text = String::new();
-    for (place, (names, words)) in lines.iter().enumerate() {
-        let start = if place == 0 { "Usage:" } else { "      " };
-        text += &format!("{start} pewgull {names} [--json] {words}\n");
-    }
-    text + "       pewgull help (all lines, keys, ranges, refusals) | --help | --version\n"
-}
-
-fn commands() -> String {
-    COMMANDS
-        .iter()
-        .map(|form| format!("{:<8} {}\n", form.name, form.about))
-        .collect()
+    text + &format!(
+        "{:<WIDTH$}every line, key, unit, range and refusal; --version\n",
+        "help"
+    )
 }
 
 fn grid() -> String {
@@ -57,11 +57,10 @@ Exit status: 0 an answer; 1 a refusal; 2 a file or usage error; 130 interrupted
 /// What `--help` prints: a screen.
 pub fn short() -> String {
     format!(
-        "{}{}\
+        "{USAGE}{}\
          FILE     a plant file, - is standard input; --json prints a JSON object for each\n\
          {}{STATUS}\
          Example: pewgull examine examples/case-a.plant 300 75 20 (it has every key)\n",
-        usage(),
         commands(),
         grid()
     )
@@ -83,6 +82,7 @@ pub fn manual() -> String {
     text += &sweep();
     text += &built();
     text += &price();
+    text += LENGTH;
     text += &day_log();
     text += "\nThe line of a target\n  \
              target         lowest nitrate target in force that day, mg/m3; 0: no term runs\n";
@@ -199,6 +199,15 @@ fn price() -> String {
         bands_expected()
     )
 }
+
+/// The line of a length.
+const LENGTH: &str = "
+The line of a length
+  length         bytes of the listing that choose prints, or examine with F R H
+A refusal has a listing too: standard error says then what it is due to, and the
+exit status is 0. A page of just that length is long enough, and one byte less
+is not.
+";
 
 /// What the shares split.
 fn shares() -> String {

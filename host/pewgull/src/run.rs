@@ -117,6 +117,12 @@ fn found(command: &Command, file: &OsStr, name: &str) -> Result<Found, Vec<Strin
             settled(call(&plant.request, existing, span), name, words)
         }
         Task::Price(options) => priced(options, file, name),
+        Task::Length(candidate) => {
+            let plant = read(file, name, plant_file::parse)?;
+            let words = |number| refusal::words(number, &plant, *candidate);
+            let answer = answer::length(&plant.request, *candidate, words);
+            settled(answer, name, words)
+        }
     }
 }
 

@@ -553,9 +553,9 @@ fn several_files_have_headings_and_the_largest_status() {
 }
 
 #[rustfmt::skip]
-const USAGE_ERRORS: [(&str, &str); 53] = [
-    ("", "no command; expected choose, examine, explain, census, load, target, works, sweep, built, price or help"),
-    ("chose", "'chose' is no command; expected choose, examine, explain, census, load, target, works, sweep, built, price or help"),
+const USAGE_ERRORS: [(&str, &str); 57] = [
+    ("", "no command; expected choose, examine, explain, census, load, target, works, sweep, built, price, length or help"),
+    ("chose", "'chose' is no command; expected choose, examine, explain, census, load, target, works, sweep, built, price, length or help"),
     ("load --csv", "expected load [--csv] LOG..."),
     ("choose --csv F", "--csv is for the command load alone"),
     ("target --csv F 01-01", "--csv is for the command load alone"),
@@ -600,6 +600,10 @@ const USAGE_ERRORS: [(&str, &str); 53] = [
     ("price F T 0.3 75 20", "fraction F: '0.3' is not a whole number; expected a whole number, 200..500, in thousandths"),
     ("price F T 300 75 4294967296", "thickening time H: '4294967296' is too large; expected a whole number, 20..25"),
     ("price - -", "FILE and TARIFF are both '-'; expected one of them from standard input at most"),
+    ("length", "expected length FILE [F R H], one file and three numbers or none (words given: 0)"),
+    ("length F 300 75", "expected length FILE [F R H], one file and three numbers or none (words given: 3)"),
+    ("length F 300 75 x", "thickening time H: 'x' is not a whole number; expected a whole number, 20..25"),
+    ("length --by 1 F", "--by is for the command sweep alone"),
     ("price --csv F T", "--csv is for the command load alone"),
     ("examine F", "expected examine FILE F R H, one file and three numbers (words given: 1)"),
     ("explain F 300 75", "expected explain FILE F R H"),

@@ -216,15 +216,11 @@ fn commands() {
     for form in COMMANDS {
         let line = format!(" pewgull {:<7} [--json] {}", form.name, form.words());
         has(&readme, "README.md", &line);
-        let end = format!(" [--json] {}", form.words());
-        let mut usage = help.lines().filter_map(|line| line.strip_suffix(&end));
-        let named = |names: &str| names.rsplit([' ', '|']).any(|name| name == form.name);
-        assert!(usage.any(named), "help has no {}", form.name);
-        has(
-            &help,
-            "help",
-            &format!("\n{:<8} {}\n", form.name, form.about),
-        );
+        let usage = format!("\n{} {}", form.name, form.words());
+        has(&help, "help", &usage);
+        let (_, after) = help.split_once(&usage).unwrap_or_default();
+        let about = after.trim_start();
+        assert!(about.starts_with(form.about), "help: {}", form.name);
     }
 }
 

@@ -32,7 +32,7 @@ pub use built::{built, Existing, Span};
 pub use choose::{census, choose};
 pub use day_log::{two_week_load, TwoWeekLoad};
 pub use examine::{examine, Candidate};
-pub use listing::{listing, write};
+pub use listing::{length, listing, write};
 pub use plant::{Plant, Precipitant, PrimarySettling, Process, Removal, Steps, TankFlow, Way};
 pub use price::{price_choose, price_examine, Priced, Tariff};
 pub use reading::{accept, Reading};

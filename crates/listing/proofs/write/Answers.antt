@@ -4,7 +4,7 @@ use Rattle.listing.proofs.Outcomes.{too_long, fits}
 use Rattle.listing.proofs.write.Goals as goal
 
 pub returns-then-page-count : goal.returns-then-page-count
-returns-then-page-count c = too_long _ _ (omega (arith, ap length c.new-listing.ensures))
+returns-then-page-count c = too_long _ _ (omega (arith, ap length c.new-listing.ensures.value))
 
 pub returns : goal.returns
-returns c = fits _ _ _ _ (omega (arith, ap length c.new-listing.ensures)) (omega (arith, ap length c.new-listing.ensures)) (rw (← c.new-listing.ensures) c.fill.ensures)
+returns c = fits _ _ _ _ (omega (arith, ap length c.new-listing.ensures.value)) (omega (arith, ap length c.new-listing.ensures.value)) (rw (← c.new-listing.ensures.value) c.fill.ensures)

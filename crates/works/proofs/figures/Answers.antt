@@ -56,7 +56,7 @@ loop-i-init c = refl
 pub loop-i-preserved : goal.loop-i-preserved
 unfolding empty_sheet
 loop-i-preserved c =
-    next c.args.works.sheets c.loop-i.figures _ c.loop-i.i (omega arith) (c.store-in-loop-i.ensures ∙ ap (sets c.loop-i.figures (8 + 15 * c.loop-i.i)) c.figures.ensures)
+    next c.args.works.sheets c.loop-i.figures _ c.loop-i.i (omega arith) (c.store-in-loop-i.ensures ∙ ap (sets c.loop-i.figures (8 + 15 * c.loop-i.i)) c.figures.ensures.value)
     ∙ c.loop-i.invariant
 
 pub returns : goal.returns

@@ -12,6 +12,7 @@ mod degrees;
 mod dose;
 mod edges;
 mod kinds;
+mod listing_lengths;
 mod nitrate;
 mod pages;
 mod pauses;
@@ -40,6 +41,7 @@ pub fn all() -> Collection {
     by_cod(&mut cases, &mut random);
     of_built_tanks(&mut cases);
     of_prices(&mut cases);
+    of_lengths(&mut cases);
     cases
 }
 
@@ -156,4 +158,11 @@ fn of_prices(cases: &mut Collection) {
     price_calls::choices(cases, &plants);
     price_calls::pages(cases);
     price_calls::malformed(cases);
+}
+
+/// The cases of a listing's length, likewise.
+fn of_lengths(cases: &mut Collection) {
+    listing_lengths::counts(cases, &mut Random::new(SEED));
+    listing_lengths::steps(cases);
+    listing_lengths::refusals(cases);
 }

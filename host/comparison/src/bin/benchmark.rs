@@ -1,13 +1,15 @@
 //! Choices, censuses, examinations, two-week loads, works in lines, whole sweeps,
-//! built tanks and prices per second of the library and of the reference, on the same
-//! plants and day logs; the time of a census beside that of a choice, of a choice
+//! built tanks, prices and lengths of listings per second of the library and of the
+//! reference, on the same plants and day logs; the time of a census beside that of a choice, of a choice
 //! with four terms beside one without, of one in the COD way beside one in the BOD
 //! way, of a works beside as many choices as it has lines, of an advance beside as
 //! many examinations, of a whole sweep and of built tanks beside a choice, of a priced
-//! choice beside a choice; and the stack that a call takes.
+//! choice and of the length of one beside a choice; and the stack that a call takes.
 
 #[path = "benchmark/built.rs"]
 mod built;
+#[path = "benchmark/lengths.rs"]
+mod lengths;
 #[path = "benchmark/prices.rs"]
 mod prices;
 #[path = "benchmark/sweeps.rs"]
@@ -19,7 +21,7 @@ use cases::plants;
 use cases::random::Random;
 use cases::request::*;
 use comparison::logs;
-use comparison::stack::{further_down, stack_of, stack_of_advance, stack_of_examination};
+use comparison::stack::{further_down, stack_of, stack_of_advance, stack_of_examination, LENGTHS};
 use comparison::sweep_calls::grid_number;
 use comparison::targets;
 use comparison::works;
@@ -328,11 +330,12 @@ fn works_beside_choices(plants: &[Request], lines: u32) -> f64 {
 /// The calls whose stack is measured.
 const STACKS: &str = "choose, examine, explain, census, load, target, works, line, \
                       start of a sweep, advance, examine in a sweep, built tanks, \
-                      price of the choice, price of a candidate";
+                      price of the choice, price of a candidate, length of the choice, \
+                      length of a candidate, length of a line";
 
 /// The most stack that a call takes over all plants.
 fn stacks(plants: &[Request]) {
-    let mut most = [0; 14];
+    let mut most = [0; 17];
     let eight = works::equal(8);
     let log = &ten_years()[0];
     let target = targets::request(4, &[[11, 16, 3, 15, 8, 20_000]; MOST_TERMS], (2, 29));
@@ -360,6 +363,9 @@ fn stacks(plants: &[Request]) {
             stack_of(library::BUILT, &built, &mut page),
             stack_of(library::PRICE_CHOOSE, &price_choose, &mut page),
             stack_of(library::PRICE_EXAMINE, &price_examine, &mut page),
+            stack_of(LENGTHS[0], &choose, &mut page),
+            stack_of(LENGTHS[1], &examine, &mut page),
+            stack_of(LENGTHS[2], &plant.line_bytes(&eight, 8), &mut page),
         ];
         assert_eq!(taken[0].0, chosen(plant));
         for (most, (_, bytes)) in most.iter_mut().zip(taken) {
@@ -454,7 +460,9 @@ fn main() {
     sweeps::rates_of_sweeps(&plants);
     built::rates_of_tanks(&plants);
     prices::rates_of_prices(&plants);
+    lengths::rates_of_lengths(&plants);
     stacks(&plants);
     limits(&plants);
     prices::limit(&plants);
+    lengths::limit(&plants);
 }

@@ -56,3 +56,43 @@ fn short_page_is_left_alone() {
         }
     }
 }
+
+/// The length is counted; the listing is written out.
+#[test]
+fn length_of_a_listing() {
+    for answer in answers() {
+        assert_eq!(length(&answer), listing(&answer).len());
+    }
+    assert_eq!(length(&Answer::Refused(9)), 10);
+    assert_eq!(length(&Answer::Refused(10)), 11);
+    assert_eq!(length(&Answer::Sheet(Sheet::default())), 132 + 15);
+    for power in 0..20 {
+        for total_volume in [10_u64.pow(power) - 1, 10_u64.pow(power)] {
+            let sheet = Answer::Sheet(Sheet {
+                total_volume,
+                ..Sheet::default()
+            });
+            assert_eq!(length(&sheet), listing(&sheet).len());
+        }
+    }
+    let figure = u64::MAX;
+    let most = Answer::Sheet(Sheet {
+        fraction: figure,
+        return_ratio: figure,
+        thickening: figure,
+        sludge_age: figure,
+        sludge_production: figure,
+        sludge_mass: figure,
+        solids: figure,
+        reactor_volume: figure,
+        settling_surface: figure,
+        settling_depth: figure,
+        settling_volume: figure,
+        total_volume: figure,
+        recirculation: figure,
+        hourly_oxygen: figure,
+        oxygen_transfer: figure,
+    });
+    assert_eq!(length(&most), 432);
+    assert_eq!(length(&most), listing(&most).len());
+}

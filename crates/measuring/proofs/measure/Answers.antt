@@ -1,0 +1,6 @@
+-- The number is the answer's, and the length its listing's. Assumes nothing.
+use Rattle.std.proofs.Common.{refl}
+use Rattle.measuring.proofs.measure.Goals as goal
+
+pub returns : goal.returns
+returns c = rw (c.answer_number.ensures.value, c.length.ensures.value) refl
