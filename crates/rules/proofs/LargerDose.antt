@@ -22,6 +22,7 @@ use Rattle.rules.specs.Examining.{total_of, sheet_from, sheet_of, permitted}
 use Rattle.rules.specs.Answers.{sheet_figures}
 use Rattle.rules.specs.Choosing.{candidate_total, ChosenAccepted, Chosen}
 use Rattle.rules.specs.WithoutDose.{with_dose}
+use Rattle.rules.specs.LooserLimits.{DesignAtMost}
 use Rattle.rules.specs.declared.Plant.{Plant}
 use Rattle.rules.specs.declared.Readings.{Readings}
 use Rattle.rules.specs.declared.Concentrations.{Concentrations}
@@ -37,7 +38,7 @@ use Rattle.rules.proofs.AcceptedData.{accepted_none_due, none_due_accepted}
 use Rattle.rules.proofs.Examined.{permitted_keeps}
 use Rattle.rules.proofs.EveryTerm.{every_weaker}
 use Rattle.rules.proofs.NitrateColumns.{fraction_keeps}
-use Rattle.rules.proofs.WiderChoice.{DesignAtMost, wider_choice}
+use Rattle.rules.proofs.WiderChoice.{wider_choice}
 use Rattle.rules.proofs.NoDose.{in_range_with_dose}
 
 -- a larger dose covers what a smaller one covers

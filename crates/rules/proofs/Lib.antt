@@ -33,6 +33,11 @@ pub mod TankApart
 pub mod NoDose
 pub mod StepsWithoutDose
 pub mod LargerDose
+pub mod GridTests
+pub mod LooserLimits
+pub mod LimitPairs
+pub mod LimitWorks
+pub mod LooserWorks
 pub mod LineLaws
 pub mod WorksLaws
 pub mod WorksOutcomes

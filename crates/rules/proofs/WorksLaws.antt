@@ -99,7 +99,7 @@ none_refused f zero e = refl
 none_refused f (suc n) e =
     ap (λ (v : Verdict). after v (answer_verdict (f n))) (none_refused f n (λ i h. e i (omega arith))) ∙ e n (omega arith)
 
-kept_parts : (v w : Verdict) → after v w ≡ (Ok tt) → (v ≡ (Ok tt)) × (w ≡ (Ok tt))
+pub kept_parts : (v w : Verdict) → after v w ≡ (Ok tt) → (v ≡ (Ok tt)) × (w ≡ (Ok tt))
 kept_parts (Ok tt) w e = (refl, e)
 kept_parts (Err n) w e = cc
 

@@ -2,7 +2,7 @@
 -- the rules 1 to 4; sludge age and nitrate; sludge and tanks; aeration and recirculation; examining, with the rules 6 to
 -- 10, and numbered answers; choosing; the listing; the worked cases. From document 02 the dose, the terms of the consent
 -- with the rules 14 to 16, bulking sludge with rule 17, sludge and oxygen from COD, works in lines with rule 18, a sweep's order,
--- existing tanks with the rules 20 and 21, the price of the concrete with rule 22. Beside them: the ranges as facts, the two nitrate columns, what explains a candidate, the
+-- existing tanks with the rules 20 and 21, the price of the concrete with rule 22, looser limits. Beside them: the ranges as facts, the two nitrate columns, what explains a candidate, the
 -- census of the grid, the day log with its highest two-week load, and the steps without a dose, without terms, without bulking sludge,
 -- without pauses in aeration and without a way.
 pub mod Rounding
@@ -46,6 +46,7 @@ pub mod Existing
 pub mod ExistingOutcome
 pub mod Price
 pub mod PriceOutcome
+pub mod LooserLimits
 pub mod DayLog
 pub mod DayLogOutcome
 pub mod Listing

@@ -41,7 +41,8 @@ line_part split whole i = down (whole * shares_to split (i + 1)) 1000 - down (wh
 -- line i as a plant: its parts of Q, Qw and the site's surface; all else, L too, is the works'
 unfoldable pub line_of : Plant → Split → ℕ → Plant
 line_of p split i =
-    altered_plant (line_part split p.flow i) (line_part split p.wet_weather_flow i) (line_part split p.site_surface i)
+    altered_plant (line_part split p.flow i) (line_part split p.wet_weather_flow i) p.nitrate_target (line_part split p.site_surface i)
+    p.site_depth
     p.sludge_volume_index
     p.dose
     p.consent

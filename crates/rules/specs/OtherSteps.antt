@@ -16,9 +16,10 @@ use Rattle.rules.specs.declared.Refusal.{Refusal}
 use Rattle.rules.specs.Results.{Acceptance}
 use Rattle.rules.specs.Results.{Answer}
 
--- a plant with another daily flow, wet weather flow and site surface, and another sludge volume index, dose, consent and way
-abbrev pub altered_plant : ℕ → ℕ → ℕ → ℕ → ℕ → Consent → Way → Plant → Plant
-altered_plant flow wet surface index dose consent way p =
+-- a plant with another daily flow, wet weather flow, design nitrate target, site surface and site depth, and another sludge volume
+-- index, dose, consent and way
+abbrev pub altered_plant : ℕ → ℕ → ℕ → ℕ → ℕ → ℕ → ℕ → Consent → Way → Plant → Plant
+altered_plant flow wet target surface depth index dose consent way p =
     record {
       load = p.load;
       flow = flow;
@@ -26,13 +27,13 @@ altered_plant flow wet surface index dose consent way p =
       design_temperature = p.design_temperature;
       aeration_temperature = p.aeration_temperature;
       sludge_volume_index = index;
-      nitrate_target = p.nitrate_target;
+      nitrate_target = target;
       phosphorus_target = p.phosphorus_target;
       carbon_peak = p.carbon_peak;
       nitrogen_peak = p.nitrogen_peak;
       oxygen_saturation = p.oxygen_saturation;
       site_surface = surface;
-      site_depth = p.site_depth;
+      site_depth = depth;
       process = p.process;
       precipitant = p.precipitant;
       tank = p.tank;
@@ -45,7 +46,7 @@ altered_plant flow wet surface index dose consent way p =
 
 -- a plant with another sludge volume index
 unfoldable pub with_index : ℕ → Plant → Plant
-with_index index p = altered_plant p.flow p.wet_weather_flow p.site_surface index p.dose p.consent p.way p
+with_index index p = altered_plant p.flow p.wet_weather_flow p.nitrate_target p.site_surface p.site_depth index p.dose p.consent p.way p
 
 -- the rules for the data, the rules for a candidate, and the sheet
 pub record Calculation : Type 0 where

@@ -22,7 +22,7 @@ use Rattle.rules.specs.declared.Refusal.{Refusal}
 
 -- a plant with another dose
 unfoldable pub with_dose : ℕ → Plant → Plant
-with_dose dose p = altered_plant p.flow p.wet_weather_flow p.site_surface p.sludge_volume_index dose p.consent p.way p
+with_dose dose p = altered_plant p.flow p.wet_weather_flow p.nitrate_target p.site_surface p.site_depth p.sludge_volume_index dose p.consent p.way p
 
 -- 1 asks of document 01's figures alone; then the other rules
 unfoldable pub data_rules_without_dose : Plant → Readings → List Rule

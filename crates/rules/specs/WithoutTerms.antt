@@ -18,7 +18,7 @@ use Rattle.rules.specs.declared.Refusal.{Refusal}
 
 -- a plant with another consent
 unfoldable pub with_consent : Consent → Plant → Plant
-with_consent consent p = altered_plant p.flow p.wet_weather_flow p.site_surface p.sludge_volume_index p.dose consent p.way p
+with_consent consent p = altered_plant p.flow p.wet_weather_flow p.nitrate_target p.site_surface p.site_depth p.sludge_volume_index p.dose consent p.way p
 
 -- 1; then 17; then 2 and 3 of each reading in turn; then 4
 unfoldable pub data_rules_without_terms : Plant → Readings → List Rule

@@ -28,7 +28,7 @@ use Rattle.rules.specs.declared.Refusal.{Refusal}
 
 -- a plant in another way
 unfoldable pub with_way : Way → Plant → Plant
-with_way way p = altered_plant p.flow p.wet_weather_flow p.site_surface p.sludge_volume_index p.dose p.consent way p
+with_way way p = altered_plant p.flow p.wet_weather_flow p.nitrate_target p.site_surface p.site_depth p.sludge_volume_index p.dose p.consent way p
 
 -- 4 is asked of every plant
 unfoldable pub data_rules_without_way : Plant → Readings → List Rule

@@ -327,8 +327,16 @@ const WANTED_LENGTHS: [Wanted; 8] = [
     ("length of a refusal, short", 13, &[11]),
 ];
 
+const WANTED_LOOSER: [Wanted; 5] = [
+    ("looser target", 6, &[0]),
+    ("looser surface", 2, &[0]),
+    ("looser depth", 2, &[0]),
+    ("warmer", 2, &[0, 5]),
+    ("lower index", 2, &[0]),
+];
+
 /// Everything that is wanted.
-const EVERY_KIND: [&[Wanted]; 10] = [
+const EVERY_KIND: [&[Wanted]; 11] = [
     &WANTED,
     &WANTED_TERMS,
     &WANTED_BULKING,
@@ -339,6 +347,7 @@ const EVERY_KIND: [&[Wanted]; 10] = [
     &WANTED_BUILT,
     &WANTED_PRICES,
     &WANTED_LENGTHS,
+    &WANTED_LOOSER,
 ];
 
 const EXAMINE_NUMBERS: &[u32] = &[0, 1, 2, 3, 4, 6, 7, 8, 9, 10, 11, 14, 15, 16, 17, 102, 103];

@@ -11,7 +11,8 @@ use std::sync::LazyLock;
 
 /// Examinations and choices, which come first.
 const EARLIER: usize = 1_624;
-/// Then those of built tanks and of prices; the lengths of listings come last.
+/// Then those of built tanks and of prices; the lengths of listings and the looser
+/// limits come last.
 const BEFORE_LENGTHS: usize = 2_053;
 
 /// All stored cases, made once for these tests.
@@ -35,8 +36,7 @@ fn after_the_earlier_cases() {
     let earlier = |case: &Case| matches!(case.operation, Operation::Examine | Operation::Choose);
     assert!(all[..EARLIER].iter().all(earlier));
     assert!(!all[EARLIER..BEFORE_LENGTHS].iter().any(earlier));
-    let examined = |case: &Case| case.operation == Operation::Examine;
-    assert!(all[BEFORE_LENGTHS..].iter().all(examined));
+    assert!(all[BEFORE_LENGTHS..].iter().all(earlier));
     let of = |operation: Operation| all.iter().filter(move |case| case.operation == operation);
     let choices = of(Operation::PriceChoose).count();
     let prices = choices + of(Operation::PriceExamine).count();

@@ -7,6 +7,7 @@ pub mod counts;
 pub mod guarded;
 pub mod lengths;
 pub mod logs;
+pub mod looser;
 pub mod prices;
 pub mod requests;
 pub mod stack;

@@ -4,6 +4,8 @@
 mod built;
 #[path = "wide/lengths.rs"]
 mod lengths;
+#[path = "wide/looser.rs"]
+mod looser;
 #[path = "wide/prices.rs"]
 mod prices;
 #[path = "wide/sweeps.rs"]

@@ -32,6 +32,8 @@ pub enum Action {
     Price,
     /// `FILE [F R H]`: one plant, with a candidate or without
     Length,
+    /// `FILE FILE`: two plants
+    Beside,
 }
 
 pub struct Form {
@@ -98,6 +100,11 @@ pub const COMMANDS: &[Form] = &[
         about: "how many bytes choose prints, or examine of F R H",
         action: Action::Length,
     },
+    Form {
+        name: "beside",
+        about: "which keys differ, and both designs line by line",
+        action: Action::Beside,
+    },
 ];
 
 impl Form {
@@ -112,6 +119,7 @@ impl Form {
             Action::Built(_) => "FILE REACTOR SURFACE DEPTH F H LEAST MOST",
             Action::Price => "FILE TARIFF [F R H]",
             Action::Length => "FILE [F R H]",
+            Action::Beside => "FILE FILE",
         }
     }
 
@@ -164,6 +172,10 @@ impl Form {
             Action::Length => {
                 let (file, candidate) = self.file_and_any_candidate(words)?;
                 Ok((Task::Length(candidate), vec![file]))
+            }
+            Action::Beside => {
+                let (first, second) = self.two_files(words)?;
+                Ok((Task::Beside(second), vec![first]))
             }
         }
     }
@@ -252,6 +264,24 @@ impl Form {
         }
     }
 
+    /// FILE FILE.
+    fn two_files(&self, words: &[OsString]) -> Result<(OsString, OsString), String> {
+        let [first, second] = words else {
+            return Err(usage(&format!(
+                "expected {} {}, two plant files (words given: {})",
+                self.name,
+                self.words(),
+                words.len()
+            )));
+        };
+        if first == "-" && second == "-" {
+            return Err(usage(
+                "both files are '-'; expected one of them from standard input at most",
+            ));
+        }
+        Ok((first.clone(), second.clone()))
+    }
+
     /// One file or more.
     fn files(&self, words: &[OsString]) -> Result<Vec<OsString>, String> {
         match words.is_empty() {
@@ -277,6 +307,8 @@ pub enum Task {
     Price(price::Options),
     /// The candidate whose listing is measured; none: the design chosen
     Length(Option<Candidate>),
+    /// The second file
+    Beside(OsString),
 }
 
 /// A command with its words.

@@ -1,6 +1,7 @@
 //! The short help, the whole manual and the versions, from the tables.
 
 use crate::arguments::COMMANDS;
+use crate::beside::LIMITS;
 use crate::census;
 use crate::keys::{shares_expected, SHARES_WORDS, TERM_TARGET, TERM_TEMPERATURE, TERM_WORDS};
 use crate::keys::{Field, HEADS, INDEX, KEYS, MOST_DOSE_WITHOUT_SLUDGE};
@@ -83,6 +84,7 @@ pub fn manual() -> String {
     text += &built();
     text += &price();
     text += LENGTH;
+    text += &beside();
     text += &day_log();
     text += "\nThe line of a target\n  \
              target         lowest nitrate target in force that day, mg/m3; 0: no term runs\n";
@@ -208,6 +210,20 @@ A refusal has a listing too: standard error says then what it is due to, and the
 exit status is 0. A page of just that length is long enough, and one byte less
 is not.
 ";
+
+/// The rows of two works beside each other, and what is told of them.
+fn beside() -> String {
+    format!(
+        "\nThe lines of two works beside each other\n  \
+         KEY            both values, for each key that differs; or no key differs\n\
+         After # designs the two nitrate columns, and the lines of both sheets; - for a\n\
+         works that is refused, its number in the line refused. Where one of\n  \
+         {}\n\
+         is all that differs, and both data are accepted, the last line says which works\n\
+         has the looser limit: it cannot lose a design, nor take more volume.\n",
+        listed(&LIMITS.map(String::from))
+    )
+}
 
 /// What the shares split.
 fn shares() -> String {

@@ -274,6 +274,33 @@ impl Key {
         }
     }
 
+    /// The value that a file has, or what counts where it is left out, as a file
+    /// would have it. Two files with one value have the same words here.
+    pub fn value(&self, file: &PlantFile) -> String {
+        let mut request = file.request;
+        match &self.field {
+            Field::Whole(_, at) => at(&mut request).to_string(),
+            Field::Word(words, set) => {
+                let is_set = |place: &usize| {
+                    let mut with = request;
+                    set(&mut with, *place);
+                    with == request
+                };
+                let place = (0..words.len()).find(is_set);
+                place.map_or_else(String::new, |place| words[place].to_string())
+            }
+            Field::Reading(_, at) => values::reading_words(*at(&mut request)),
+            Field::Term => {
+                let terms = request.terms.named().iter().map(values::term_words);
+                listed_or_none(terms.collect::<Vec<_>>(), "; ")
+            }
+            Field::Shares => {
+                let shares = file.shares.iter().map(u32::to_string);
+                listed_or_none(shares.collect::<Vec<_>>(), " ")
+            }
+        }
+    }
+
     /// Puts the value, given by its words, into what the file holds. The error
     /// says what is wrong.
     pub fn put(&self, file: &mut PlantFile, words: SplitWhitespace) -> Result<(), String> {
@@ -287,6 +314,14 @@ impl Key {
             Field::Shares => file.shares = values::shares(words)?,
         }
         Ok(())
+    }
+}
+
+/// Values one after the other, or that there is none.
+fn listed_or_none(values: Vec<String>, between: &str) -> String {
+    match values.is_empty() {
+        true => "none".to_string(),
+        false => values.join(between),
     }
 }
 

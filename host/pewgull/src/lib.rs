@@ -2,6 +2,7 @@
 
 pub mod answer;
 pub mod arguments;
+pub mod beside;
 pub mod built;
 pub mod census;
 pub mod consent;

@@ -2,6 +2,7 @@
 
 use crate::answer::{self, Answer};
 use crate::arguments::{Command, Task};
+use crate::beside::{self, Works};
 use crate::built;
 use crate::consent;
 use crate::day_file::{self, Log};
@@ -123,7 +124,40 @@ fn found(command: &Command, file: &OsStr, name: &str) -> Result<Found, Vec<Strin
             let answer = answer::length(&plant.request, *candidate, words);
             settled(answer, name, words)
         }
+        Task::Beside(second) => beside(second, file, name),
     }
+}
+
+/// What comes of two works: their table, and the words of each that is refused.
+fn beside(second: &OsStr, file: &OsStr, name: &str) -> Result<Found, Vec<String>> {
+    let second_name = name_of(second);
+    let (first, second) = both(
+        read(file, name, plant_file::parse),
+        read(second, &second_name, plant_file::parse),
+    )?;
+    let works = [Works::of(name, &first), Works::of(&second_name, &second)];
+    let mut messages = Vec::new();
+    for works in &works {
+        match works.number {
+            SHEET => {}
+            number if is_refusal(number) => {
+                let words = refusal::words(number, works.plant, None);
+                messages.push(format!("{}: {words}", works.name));
+            }
+            number => return Err(vec![other_version(works.name, number)]),
+        }
+    }
+    let mut members = vec![json::text("status", "beside")];
+    members.extend(beside::members(&works));
+    if !messages.is_empty() {
+        members.push(json::text("message", &messages.join("\n")));
+    }
+    Ok(Found {
+        status: if messages.is_empty() { 0 } else { REFUSED },
+        text: beside::text(&works).into_bytes(),
+        members,
+        messages,
+    })
 }
 
 /// What comes of the price of a plant by a tariff.
@@ -187,11 +221,15 @@ fn settled(
             })
         }
         number if is_refusal(number) => Ok(refused(answer, format!("{name}: {}", words(number)))),
-        number => Err(vec![format!(
-            "{name}: the library answered {number}, expected a sheet or a refusal; \
-             its archive and this tool are of different versions"
-        )]),
+        number => Err(vec![other_version(name, number)]),
     }
+}
+
+fn other_version(name: &str, number: u32) -> String {
+    format!(
+        "{name}: the library answered {number}, expected a sheet or a refusal; \
+         its archive and this tool are of different versions"
+    )
 }
 
 fn refused(answer: Answer, message: String) -> Found {

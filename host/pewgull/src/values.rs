@@ -44,6 +44,31 @@ pub fn reading(words: &[&str]) -> Result<Reading, String> {
     }
 }
 
+/// The words of a reading, from which `reading` makes it again.
+pub fn reading_words(reading: Reading) -> String {
+    match reading {
+        Reading::Measured(bits) => format!("measured {}", f32_words(bits)),
+        Reading::Below(bits) => format!("below {}", f32_words(bits)),
+        Reading::Heads(count) => format!("heads {count}"),
+    }
+}
+
+/// An f32 as a decimal number, or by its bits where that would be another.
+fn f32_words(bits: u32) -> String {
+    let decimal = f32::from_bits(bits).to_string();
+    match f32_bits(&decimal) {
+        Ok(same) if same == bits => decimal,
+        _ => format!("bits:{bits:08x}"),
+    }
+}
+
+/// The words of a term, from which `term` makes it again.
+pub fn term_words(term: &Term) -> String {
+    let date = |date: Date| format!("{:02}-{:02}", date.month, date.day);
+    let (first, last) = (date(term.first), date(term.last));
+    format!("{first} {last} {} {}", term.temperature, term.target)
+}
+
 /// `MM-DD`. Whether there is such a day is the library's answer.
 pub fn date(word: &str) -> Result<Date, String> {
     let (month, day) = word.split_once('-').unwrap_or_default();

@@ -553,9 +553,9 @@ fn several_files_have_headings_and_the_largest_status() {
 }
 
 #[rustfmt::skip]
-const USAGE_ERRORS: [(&str, &str); 57] = [
-    ("", "no command; expected choose, examine, explain, census, load, target, works, sweep, built, price, length or help"),
-    ("chose", "'chose' is no command; expected choose, examine, explain, census, load, target, works, sweep, built, price, length or help"),
+const USAGE_ERRORS: [(&str, &str); 60] = [
+    ("", "no command; expected choose, examine, explain, census, load, target, works, sweep, built, price, length, beside or help"),
+    ("chose", "'chose' is no command; expected choose, examine, explain, census, load, target, works, sweep, built, price, length, beside or help"),
     ("load --csv", "expected load [--csv] LOG..."),
     ("choose --csv F", "--csv is for the command load alone"),
     ("target --csv F 01-01", "--csv is for the command load alone"),
@@ -603,6 +603,9 @@ const USAGE_ERRORS: [(&str, &str); 57] = [
     ("length", "expected length FILE [F R H], one file and three numbers or none (words given: 0)"),
     ("length F 300 75", "expected length FILE [F R H], one file and three numbers or none (words given: 3)"),
     ("length F 300 75 x", "thickening time H: 'x' is not a whole number; expected a whole number, 20..25"),
+    ("beside F", "expected beside FILE FILE, two plant files (words given: 1)"),
+    ("beside F F F", "expected beside FILE FILE, two plant files (words given: 3)"),
+    ("beside - -", "both files are '-'; expected one of them from standard input at most"),
     ("length --by 1 F", "--by is for the command sweep alone"),
     ("price --csv F T", "--csv is for the command load alone"),
     ("examine F", "expected examine FILE F R H, one file and three numbers (words given: 1)"),

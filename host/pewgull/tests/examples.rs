@@ -10,7 +10,7 @@ use std::path::Path;
 use std::process::Command;
 
 /// Each file, its answer's first lines, and its exit status.
-const ANSWERS: [(&str, &str, i32); 16] = [
+const ANSWERS: [(&str, &str, i32); 17] = [
     ("bulking-sludge.plant", "refused 17\n", 1),
     (
         "case-a.plant",
@@ -64,6 +64,11 @@ const ANSWERS: [(&str, &str, i32); 16] = [
         0,
     ),
     (
+        "town-stricter-target.plant",
+        "fraction 360\nreturn 75\nthickening 25\n",
+        0,
+    ),
+    (
         "village-simultaneous.plant",
         "fraction 377\nreturn 69\nthickening 22\n",
         0,
@@ -111,6 +116,21 @@ fn every_plant_is_in_the_table_and_says_what_it_shows() {
 fn data(path: &str) -> String {
     let text = fs::read_to_string(path).unwrap();
     text.split_once('\n').unwrap().1.to_string()
+}
+
+/// The town with a target of 9 mg/l takes 399 m3 more, and is alike in all else.
+#[test]
+fn stricter_target() {
+    let stricter = example("town-stricter-target.plant");
+    let town = example("town-pre-anoxic.plant");
+    let ran = pewgull(&["beside", &stricter, &town]);
+    assert_eq!((ran.status, ran.err.as_str()), (0, ""));
+    assert!(ran
+        .out
+        .contains("\ntotal                10639    10240 m3\n"));
+    assert!(ran
+        .out
+        .contains("\n2 has the looser nitrate-target and is alike"));
 }
 
 /// The town with two terms has the design that it has without them; two

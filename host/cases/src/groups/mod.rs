@@ -13,6 +13,7 @@ mod dose;
 mod edges;
 mod kinds;
 mod listing_lengths;
+mod looser_limits;
 mod nitrate;
 mod pages;
 mod pauses;
@@ -42,6 +43,7 @@ pub fn all() -> Collection {
     of_built_tanks(&mut cases);
     of_prices(&mut cases);
     of_lengths(&mut cases);
+    looser_limits::pairs(&mut cases);
     cases
 }
 
