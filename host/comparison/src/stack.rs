@@ -97,43 +97,26 @@ pub fn stack_of_examination(state: &[u8]) -> (u32, usize) {
     stack_of(examine, state, &mut [0; PAGE_LENGTH])
 }
 
-/// The length of what is chosen, in the shape of a `Call`.
-///
-/// Safety: as for the archive's function.
-unsafe extern "C" fn length_of_choice(
-    request: *const u8,
-    request_length: usize,
-    _: *mut u8,
-    _: usize,
-    length: *mut u64,
-) -> u32 {
-    library::LENGTH_CHOOSE(request, request_length, length)
+/// Declares calls for a length in the shape of a `Call`.
+macro_rules! as_calls {
+    ($($name:ident: $call:path;)*) => {
+        $(/// Safety: as for the archive's function.
+        unsafe extern "C" fn $name(
+            request: *const u8,
+            request_length: usize,
+            _: *mut u8,
+            _: usize,
+            length: *mut u64,
+        ) -> u32 {
+            $call(request, request_length, length)
+        })*
+    };
 }
 
-/// The same of a candidate.
-///
-/// Safety: as for the archive's function.
-unsafe extern "C" fn length_of_candidate(
-    request: *const u8,
-    request_length: usize,
-    _: *mut u8,
-    _: usize,
-    length: *mut u64,
-) -> u32 {
-    library::LENGTH_EXAMINE(request, request_length, length)
-}
-
-/// The same of a line of a works.
-///
-/// Safety: as for the archive's function.
-unsafe extern "C" fn length_of_line(
-    request: *const u8,
-    request_length: usize,
-    _: *mut u8,
-    _: usize,
-    length: *mut u64,
-) -> u32 {
-    library::LENGTH_LINE(request, request_length, length)
+as_calls! {
+    length_of_choice: library::LENGTH_CHOOSE;
+    length_of_candidate: library::LENGTH_EXAMINE;
+    length_of_line: library::LENGTH_LINE;
 }
 
 /// The calls for a length, whose stack is taken as that of any call: of what is
