@@ -2,7 +2,8 @@
 // number of bytes written there. C asks for a function of its own for each call, and for a number beside a count.
 #![tactic(auto)]
 
-ghost use Rattle.std.specs.Prelude.{◌≡◌, []};
+ghost use Rattle.std.specs.Prelude.{◌≡◌, ◌≤◌, []};
+ghost use Rattle.rules.specs.Listing.{longest_listing};
 ghost use Rattle.putting.specs.Outcomes.{outcome};
 ghost use Rattle.resuming.specs.States.{started_on, resumed, AdvancedOn, looked_on};
 ghost use Rattle.standing.specs.Tanks.{BuiltOn};
@@ -151,7 +152,8 @@ pub extern "C" fn pewgull_price_examine(request: &[u8], page: &mut [u8], written
 // with the length 0.
 #[unsafe(no_mangle)]
 pub extern "C" fn pewgull_length_examine(request: &[u8], length: &mut u64) -> u32
-    ensures { outcome result [] length.new ≡ examined_length request.now }
+    ensures value { outcome result [] length.new ≡ examined_length request.now }
+    ensures most { length.new ≤ longest_listing }
 {
     putting::finish(measuring::examine(request), length)
 }
@@ -160,7 +162,8 @@ pub extern "C" fn pewgull_length_examine(request: &[u8], length: &mut u64) -> u3
 // with the length 0.
 #[unsafe(no_mangle)]
 pub extern "C" fn pewgull_length_choose(request: &[u8], length: &mut u64) -> u32
-    ensures { ChoosingLength request.now (outcome result [] length.new) }
+    ensures value { ChoosingLength request.now (outcome result [] length.new) }
+    ensures most { length.new ≤ longest_listing }
 {
     putting::finish(measuring::choose(request), length)
 }
@@ -169,7 +172,8 @@ pub extern "C" fn pewgull_length_choose(request: &[u8], length: &mut u64) -> u32
 // with the length 0.
 #[unsafe(no_mangle)]
 pub extern "C" fn pewgull_length_line(request: &[u8], length: &mut u64) -> u32
-    ensures { LineLength request.now (outcome result [] length.new) }
+    ensures value { LineLength request.now (outcome result [] length.new) }
+    ensures most { length.new ≤ longest_listing }
 {
     putting::finish(measuring::line(request), length)
 }

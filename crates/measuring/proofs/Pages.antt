@@ -1,9 +1,9 @@
 -- The length that a call gives is the one that the writing call wants: for every request and every page, from that length on the page is
 -- written, with the same number and as many bytes; a shorter one gets 11 and stays as it was. Assumes nothing.
 use Rattle.std.proofs.Common.{◌≡◌, refl, ap, ◌∙◌, ℕ, List, ◌<◌, length, arith}
-use Rattle.std.specs.Prelude.{[], Result, Ok, Err}
+use Rattle.std.specs.Prelude.{◌≤◌, [], Result, Ok, Err, IfOk}
 use Rattle.rules.specs.Answers.{answer_number}
-use Rattle.rules.specs.Listing.{listing}
+use Rattle.rules.specs.Listing.{listing, longest_listing}
 use Rattle.rules.specs.Examining.{examine}
 use Rattle.rules.specs.Results.{Answer}
 use Rattle.rules.specs.declared.Candidate.{Candidate}
@@ -13,7 +13,9 @@ use Rattle.request.specs.Frames.{candidate_words, line_words}
 use Rattle.request.specs.Layout.{decode, asked_candidate, asked_split, asked_line}
 use Rattle.request.specs.declared.Data.{Data}
 use Rattle.request.specs.declared.Fault.{Fault}
-use Rattle.putting.specs.Outcomes.{Outcome, malformed, on_data, answered, Answering}
+use Rattle.putting.specs.Outcomes.{Outcome, outcome, malformed, on_data, answered, Answering}
+use Rattle.putting.specs.Replies.{replied}
+use Rattle.putting.specs.declared.Reply.{Reply}
 use Rattle.putting.proofs.Outcomes.{short_page, long_page}
 use Rattle.interface.specs.Calls.{ChosenFor, Choosing, LineFor, LineAsked, examined_at, examined}
 use Rattle.measuring.specs.Lengths.{measured, measured_at, examined_length, ChoosingLength, LineLength, Foretold}
@@ -66,3 +68,13 @@ line_foretold bytes page m o =
     m
     o
     (decode bytes line_words)
+
+-- what C is given of a reply within the longest listing is within it too, and so is the 0 of a malformed request
+pub length_within :
+    (reply : Result Reply Fault) (number length : ℕ)
+    → IfOk reply (λ r. r.written ≤ longest_listing)
+    → outcome number [] length ≡ replied reply []
+    → length ≤ longest_listing
+unfolding malformed
+length_within (Ok r) number length h e = let own : length ≡ r.written = ap (λ (o : Outcome). o.written) e in omega arith
+length_within (Err fault) number length h e = let own : length ≡ 0 = ap (λ (o : Outcome). o.written) e in omega arith

@@ -38,6 +38,9 @@ pub use Rattle.choosing.proofs.Refuted.{five_from_the_largest}
 pub use Rattle.explaining.proofs.Refuted.{always_off_grid, one_candidate_explained, verdict_always_kept, dosed_columns, term_columns}
 -- every page refused; a page left as it was, written past the listing's end, or written in part
 pub use Rattle.listing.proofs.Refuted.{not_refused, not_untouched, not_past_the_end, not_in_part}
+-- a listing's length by a fixed width of numerals, with 0 as no digit, without a refusal's second digit or the last newline, with a zero
+-- byte at its end, 0 for a refusal, or the longest for all
+pub use Rattle.listing.proofs.Refuted.{no_fixed_width, zero_has_a_digit, second_digit, last_newline, no_zero_byte, refusal_listed, not_the_longest}
 -- a reading scaled in floating point, and other wrong conversions
 pub use Rattle.accepting.proofs.Refuted.{float_product, tie_upwards, rounded_before_halving, minus_zero_lem, nan_let_through}
 -- 17 at an index of 180, or not at 181 or 200; 17 after the 2 or 3 of a reading, or before 1: fields of one record
@@ -55,3 +58,7 @@ pub use Rattle.existing.proofs.Refuted.{WrongTanks, wrong_tanks, not_monotone, e
 -- the price: the metre at a limit charged in the next band, both tanks as one volume, the surcharge per tank, per band or rounded down, 22
 -- before the sheet's refusal, a price with a refusal, and tariffs just valid or just not: fields of one record; a choice by price
 pub use Rattle.pricing.proofs.Refuted.{WrongPrices, wrong_prices, case_a_priced, chosen_by_price}
+-- wrong statements about a looser limit: the same design, a smaller total, the site of a works in lines; and that a warmer plant keeps its
+-- design, or that a lower sludge volume index takes no more
+pub use Rattle.rules.proofs.LimitPairs.{OtherFraction, other_fraction, SameTotal, no_smaller_total, warmer_loses, LargerTotal, lower_index}
+pub use Rattle.rules.proofs.LimitWorks.{larger_site_loses}

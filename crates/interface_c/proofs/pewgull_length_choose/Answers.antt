@@ -1,6 +1,10 @@
--- The outcome is that of the call that it hands on to. Assumes nothing.
+-- The outcome is that of the call that it hands on to, and so is the bound. Assumes nothing.
 use Rattle.std.specs.Prelude.{[]}
+use Rattle.measuring.proofs.Pages.{length_within}
 use Rattle.interface_c.proofs.pewgull_length_choose.Goals as goal
 
-pub returns : goal.returns
-returns c = rw (c.finish.ensures []) c.choose.ensures
+pub returns-clause-value : goal.returns-clause-value
+returns-clause-value c = rw (c.finish.ensures []) c.choose.ensures.value
+
+pub returns-clause-most : goal.returns-clause-most
+returns-clause-most c = length_within c.choose.result _ _ c.choose.ensures.most (c.finish.ensures [])

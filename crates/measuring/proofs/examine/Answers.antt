@@ -4,8 +4,8 @@ use Rattle.putting.specs.Outcomes.{on_data}
 use Rattle.measuring.specs.Lengths.{examined_length}
 use Rattle.measuring.proofs.examine.Goals as goal
 
-pub returns : goal.returns
+pub returns-clause-value : goal.returns-clause-value
 unfolding on_data examined_length
-returns c =
+returns-clause-value c =
     rw (← c.in_ok-data.ensures.data, ← c.candidate-candidate.ensures)
-    (c.measure.ensures ∙ rw c.examine.ensures.value refl)
+    (c.measure.ensures.value ∙ rw c.examine.ensures.value refl)

@@ -2,5 +2,5 @@
 use Rattle.std.proofs.Common.{refl}
 use Rattle.measuring.proofs.measure.Goals as goal
 
-pub returns : goal.returns
-returns c = rw (c.answer_number.ensures.value, c.length.ensures.value) refl
+pub returns-clause-value : goal.returns-clause-value
+returns-clause-value c = rw (c.answer_number.ensures.value, c.length.ensures.value) refl
