@@ -1,5 +1,6 @@
 // The calls for C: a request's bytes in; out the answer's number, its listing or its figures on a page that the caller lends, and the
-// number of bytes written there. C asks for a function of its own for each call, and for a number beside a count.
+// number of bytes written there; or, with no page, the length of its listing. C asks for a function of its own for each call, and for a
+// number beside a count.
 #![tactic(auto)]
 
 ghost use Rattle.std.specs.Prelude.{◌≡◌, ◌≤◌, []};

@@ -57,7 +57,6 @@ pub fn figures(sheet: Sheet) -> [u64; 15]
 }
 
 // The number of decimal digits of n.
-#[tactic(auto, using(crate::proofs::Digits::length_by_power, rules::proofs::Numeral::length_one))]
 fn digit_count(n: u64) -> usize
     ensures { (result ≡ length (numeral n)) × (result ≤ 20) }
 {

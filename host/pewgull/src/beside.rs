@@ -40,15 +40,15 @@ impl<'a> Works<'a> {
         let mut page = [0; PAGE_LENGTH];
         let (number, written) = choose(&plant.request.to_choose(), &mut page);
         let listing = String::from_utf8_lossy(&page[..written as usize]);
-        let sheet = match number {
-            SHEET => numbers(&listing),
-            _ => Vec::new(),
+        let figures = match number {
+            SHEET => with_columns(plant, numbers(&listing)),
+            _ => None,
         };
         Works {
             name,
             plant,
             number,
-            figures: columns(plant, &sheet).into_iter().chain(sheet).collect(),
+            figures: figures.unwrap_or_default(),
         }
     }
 
@@ -64,21 +64,19 @@ fn numbers(listing: &str) -> Vec<u64> {
     listing.lines().filter_map(number).collect()
 }
 
-/// The two nitrate columns of a sheet.
-fn columns(plant: &PlantFile, sheet: &[u64]) -> Vec<u64> {
-    let [fraction, return_ratio, thickening, ..] = *sheet else {
-        return Vec::new();
+/// The two nitrate columns of a sheet, and its figures after them.
+fn with_columns(plant: &PlantFile, sheet: Vec<u64>) -> Option<Vec<u64>> {
+    let [fraction, return_ratio, thickening, ..] = sheet[..] else {
+        return None;
     };
     let candidate = Candidate {
         fraction: fraction as u32,
         return_ratio: return_ratio as u32,
         thickening: thickening as u32,
     };
-    let figures = explanation::figures(&plant.request, candidate);
-    figures.map_or_else(
-        |_| Vec::new(),
-        |figures| vec![figures.nitrate_to_remove, figures.nitrate_removable],
-    )
+    let figures = explanation::figures(&plant.request, candidate).ok()?;
+    let columns = [figures.nitrate_to_remove, figures.nitrate_removable];
+    Some(columns.into_iter().chain(sheet).collect())
 }
 
 /// A key with two values.

@@ -292,11 +292,14 @@ impl Key {
             Field::Reading(_, at) => values::reading_words(*at(&mut request)),
             Field::Term => {
                 let terms = request.terms.named().iter().map(values::term_words);
-                listed_or_none(terms.collect::<Vec<_>>(), "; ")
+                let mut terms: Vec<_> = terms.collect();
+                let more = request.terms.count as usize - terms.len();
+                terms.extend((more > 0).then(|| format!("{more} more")));
+                listed_or_none(terms, "; ")
             }
             Field::Shares => {
                 let shares = file.shares.iter().map(u32::to_string);
-                listed_or_none(shares.collect::<Vec<_>>(), " ")
+                listed_or_none(shares.collect(), " ")
             }
         }
     }

@@ -176,6 +176,26 @@ fn values_written_otherwise() {
     assert!(parts(&ran).0.ends_with("no key differs\n"), "{}", ran.out);
 }
 
+/// Terms past the four that are kept are counted, and both works refused.
+#[test]
+fn too_many_terms() {
+    let terms = |count: usize| {
+        let lines = "term 01-01 01-31 12 20000\n".repeat(count);
+        file(
+            &format!("beside-{count}-terms.plant"),
+            CASE_A.to_string() + &lines,
+        )
+    };
+    let ran = beside(&terms(5), &terms(6));
+    assert!(parts(&ran).0.contains("; 1 more"), "{}", ran.out);
+    assert!(parts(&ran).0.contains("; 2 more"), "{}", ran.out);
+    assert_eq!(
+        (ran.status, row(&ran, "refused")),
+        (1, vec!["14".to_string(), "14".to_string()])
+    );
+    assert_eq!(row(&ran, "total"), ["-", "-", "m3"]);
+}
+
 #[test]
 fn as_json() {
     let [first, second] = [4_600, 5_000].map(|depth| {
