@@ -12,9 +12,9 @@
  * that go on with one sweep take turns, or a copy of its state each. A choice
  * takes 9 kB of stack, a works 14 kB, a line of a works, an advance of a sweep
  * and a choice that is priced 10 kB; examining, also in a sweep or priced,
- * takes 4 kB, explaining, a census, a load, a target, existing tanks and the
- * start of a sweep 3 kB, and the length of a listing as much as the call that
- * writes it. The archive needs memcpy and memset, and nothing more.
+ * explaining, a census, a load, a target, existing tanks and the start of a
+ * sweep take 3 kB, and the length of a listing as much as the call that writes
+ * it. The archive needs memcpy and memset, and nothing more.
  *
  * What the caller sees to
  *   - request points to request_length readable bytes, log to log_length,

@@ -1,7 +1,7 @@
 // Examining a candidate: the refusal of the data, the first rule that the candidate breaks, or its complete sheet.
 #![tactic(auto)]
 
-ghost use Rattle.std.specs.Prelude.{◌≡◌};
+ghost use Rattle.std.specs.Prelude.{◌≡◌, T};
 ghost use Rattle.rules.specs.AgeNitrate.{largest_return_ratio, on_grid};
 ghost use Rattle.rules.specs.Limits.{most_ratio};
 ghost use Rattle.rules.specs.Ranges.{Between};
@@ -116,18 +116,25 @@ pub fn judge_tank(accepted: &Accepted, candidate: GridCandidate, reactor: &React
     Ok(sheet_from(&accepted.plant, candidate, reactor, &settling, aeration))
 }
 
-// A candidate of accepted data: the refusal of the first rule that it breaks, else its sheet. The tank is
-// computed only where the fraction keeps its rules.
+// A candidate on the grid, from what its fraction rests on: the refusal of the first rule that it breaks, else its sheet. The tank is
+// computed only where the fraction keeps its rules. Not inlined, so that its figures are not on the stack while the basis is made.
+#[inline(never)]
+fn judge_on_grid(basis: &Basis, candidate: GridCandidate) -> Answer
+    requires { T (on_grid basis.now.data.plant.tank candidate) }
+    ensures { result ≡ judge basis.now.data.plant basis.now.data.concentrations candidate }
+{
+    let reactor = basis.reactor(candidate.fraction());
+    basis.fraction_verdict(&reactor)?;
+    judge_tank(&basis.data, candidate, &reactor)
+}
+
+// A candidate of accepted data: the refusal of the first rule that it breaks, else its sheet.
 pub fn judge(accepted: &Accepted, candidate: Candidate) -> Answer
     ensures { result ≡ judge accepted.now.plant accepted.now.concentrations candidate }
 {
     let on_grid = on_grid(accepted.plant.tank, candidate);
     verdicts::rule(on_grid, Refusal::OffGrid)?;
-    let candidate = GridCandidate::new(candidate);
-    let basis = Basis::new(*accepted);
-    let reactor = basis.reactor(candidate.fraction());
-    basis.fraction_verdict(&reactor)?;
-    judge_tank(accepted, candidate, &reactor)
+    judge_on_grid(&Basis::new(*accepted), GridCandidate::new(candidate))
 }
 
 // What examining answers for any plant data, lab readings and candidate; a sheet keeps the two columns.

@@ -542,7 +542,7 @@ fn stack_as_stated() {
         let [price_choose, price_examine] = comparison::prices::requests_of(&request);
         for (call, bytes, stated) in [
             (library::CHOOSE, &choose, 9_000),
-            (library::EXAMINE, &examine, 4_000),
+            (library::EXAMINE, &examine, 3_000),
             (library::EXPLAIN, &examine, 3_000),
             (library::CENSUS, &choose, 3_000),
             (library::LOAD, &log, 3_000),
@@ -551,7 +551,7 @@ fn stack_as_stated() {
             (library::LINE, &line, 10_000),
             (library::BUILT, &built, 3_000),
             (library::PRICE_CHOOSE, &price_choose, 10_000),
-            (library::PRICE_EXAMINE, &price_examine, 4_000),
+            (library::PRICE_EXAMINE, &price_examine, 3_000),
             (library::SWEEP_START, &choose, 3_000),
         ] {
             let (_, taken) = stack_of(call, bytes, &mut [0; WORKS_PAGE]);
@@ -559,7 +559,7 @@ fn stack_as_stated() {
         }
         for (call, bytes, stated) in [
             (LENGTHS[0], &choose, 9_000),
-            (LENGTHS[1], &examine, 4_000),
+            (LENGTHS[1], &examine, 3_000),
             (LENGTHS[2], &line, 10_000),
         ] {
             within_stated(stack_of(call, bytes, &mut []).1, stated);
@@ -568,7 +568,7 @@ fn stack_as_stated() {
         for number in [0, 40_000, last] {
             let state = request.state_bytes(number, cases::request::NONE_YET);
             within_stated(stack_of_advance(&state).1, 10_000);
-            within_stated(stack_of_examination(&state).1, 4_000);
+            within_stated(stack_of_examination(&state).1, 3_000);
         }
     }
 }
