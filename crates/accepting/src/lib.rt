@@ -13,8 +13,7 @@ ghost use Rattle.accepting.specs.Conversion.{refusal_of, judge_result, convert, 
 ghost use Rattle.accepting.specs.Acceptance.{acceptance_of};
 
 use rules::{
-    Accepted, Concentrations, DailyFlow, Parameter, Plant, PrimarySettling, Reading, Readings,
-    Refusal, Way,
+    Accepted, Concentrations, Parameter, Plant, PrimarySettling, Reading, Readings, Refusal, Way,
 };
 
 // Why an f32 has no thousandths: it is no number, or at or above the cut-off 2^23.
@@ -168,28 +167,30 @@ fn per_head(parameter: Parameter, settling: PrimarySettling) -> u64
 // A head count: its range, then its thousandths.
 #[tactic(auto, using(crate::proofs::Conversions::heads))]
 fn convert_heads(
-    flow: DailyFlow,
+    flow: u32,
     settling: PrimarySettling,
     parameter: Parameter,
     heads: u32,
 ) -> Result<u64, Refusal>
+    requires { 0 < flow }
     ensures { result ≡ convert flow settling parameter (Reading.Heads heads) }
 {
     if !rounding::within(1, 2_000_000, heads) {
         return Err(Refusal::ReadingRange);
     }
     let grams = per_head(parameter, settling);
-    let n = rounding::round_up(u64::from(heads) * grams * 100, flow.get());
+    let n = rounding::round_up(u64::from(heads) * grams * 100, u64::from(flow));
     judge_result(parameter, n)
 }
 
 // One reading, at the plant's daily flow and primary settling: 2, then 3, else its thousandths.
 pub fn convert(
-    flow: DailyFlow,
+    flow: u32,
     settling: PrimarySettling,
     parameter: Parameter,
     reading: Reading,
 ) -> Result<u64, Refusal>
+    requires { 0 < flow }
     ensures { result ≡ convert flow settling parameter reading }
 {
     match reading {
@@ -217,7 +218,7 @@ fn accept_readings(plant: &Plant, readings: Readings) -> Result<Concentrations, 
     requires { Between 1 200_000 plant.now.flow }
     ensures { result ≡ accept_readings plant.now readings }
 {
-    let flow = DailyFlow::new(u64::from(plant.flow));
+    let flow = plant.flow;
     let settling = plant.primary_settling;
     let bod = convert(flow, settling, Parameter::Bod, readings.bod)?;
     let cod = convert(flow, settling, Parameter::Cod, readings.cod)?;

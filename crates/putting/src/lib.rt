@@ -42,19 +42,26 @@ pub fn put(answer: Answer, page: &mut [u8]) -> Reply
     }
 }
 
-// Writes figures on the page, eight bytes each. The number is that of the answer that they are of.
+// Writes figures on the page, eight bytes each, with whatever number goes with them.
 #[tactic(auto, using(crate::proofs::Outcomes::short_page, crate::proofs::Outcomes::long_page, words::proofs::Stores::sets_start, words::proofs::Stores::length_numbers))]
-pub fn put_figures<T: Copy>(answer: Result<T, Refusal>, figures: &[u64], page: &mut [u8]) -> Reply
-    ensures { replied (Ok result) page.new ≡ put_on (answer_number answer) (number_bytes figures.now) page.old }
+pub fn put_numbered(number: u32, figures: &[u64], page: &mut [u8]) -> Reply
+    ensures { replied (Ok result) page.new ≡ put_on number (number_bytes figures.now) page.old }
 {
     if page.len() / 8 < figures.len() {
         return refused(Refusal::ShortPage);
     }
     words::put_numbers(page, figures);
     Reply {
-        number: listing::answer_number(answer) as u32,
+        number,
         written: 8 * figures.len() as u64,
     }
+}
+
+// The same with the number of the answer that the figures are of.
+pub fn put_figures<T: Copy>(answer: Result<T, Refusal>, figures: &[u64], page: &mut [u8]) -> Reply
+    ensures { replied (Ok result) page.new ≡ put_on (answer_number answer) (number_bytes figures.now) page.old }
+{
+    put_numbered(listing::answer_number(answer) as u32, figures, page)
 }
 
 // Writes the number that an answer gives on the page, or 0 where it gives none.

@@ -3,10 +3,10 @@ ghost use Rattle.std.specs.Prelude.{◌≡◌, ◌*◌, ◌≤◌};
 ghost use Rattle.rules.specs.Rounding.{down};
 ghost use Rattle.rules.specs.AgeNitrate.{safety_factor, per_degree, growth, decay, aerobic_age, sludge_age, corrected_age};
 ghost use Rattle.rules.specs.Ranges.{Between};
-ghost use Rattle.rules.specs.Limits.{least_temperature};
+ghost use Rattle.rules.specs.Limits.{least_temperature, most_fraction};
 
 use rounding::round_up;
-use rules::{CorrectedAge, DecayFactor, GridFraction, SafetyFactor, SludgeAge, Temperature};
+use rules::{CorrectedAge, DecayFactor, SafetyFactor, SludgeAge, Temperature};
 
 // 1,000,000 multiplied by multiplier / divisor once for each degree, down at each.
 #[tactic(auto, using(crate::proofs::AgeLimits::per_degree_none, crate::proofs::AgeLimits::per_degree_more, crate::proofs::AgeLimits::per_degree_fits))]
@@ -66,19 +66,20 @@ pub fn aerobic_age(factor: SafetyFactor, temperature: Temperature) -> SludgeAge
     SludgeAge::new(round_up(factor.get() * 34 * growth(temperature), 1_000_000))
 }
 
-// t, sludge age, thousandths of a day.
+// t, sludge age, thousandths of a day; the fraction may also be below the grid's.
 #[tactic(auto, unfolding(rules::specs::AgeNitrate::sludge_age))]
-pub fn sludge_age(aerobic: SludgeAge, fraction: GridFraction) -> SludgeAge
-    requires { aerobic ≤ 10_000 }
+pub fn sludge_age(aerobic: SludgeAge, fraction: u64) -> SludgeAge
+    requires { (aerobic ≤ 10_000) × (fraction ≤ most_fraction) }
     ensures { result ≡ sludge_age aerobic fraction }
 {
-    SludgeAge::new(round_up(1000 * aerobic.get(), 1000 - fraction.get()))
+    SludgeAge::new(round_up(1000 * aerobic.get(), 1000 - fraction))
 }
 
-// U, sludge age corrected by the decay at a temperature, thousandths of a day.
+// U, sludge age corrected by the decay at a temperature, thousandths of a day: at most 1.42 times the age.
 pub(crate) fn corrected_by(age: u64, decay: DecayFactor) -> CorrectedAge
     requires { age ≤ 30_000 }
-    ensures { result ≡ down (age * decay) 1_000_000 }
+    ensures value { result ≡ down (age * decay) 1_000_000 }
+    ensures most { 100 * result ≤ 142 * age }
 {
     CorrectedAge::new(age * decay.get() / 1_000_000)
 }
@@ -87,7 +88,8 @@ pub(crate) fn corrected_by(age: u64, decay: DecayFactor) -> CorrectedAge
 #[tactic(auto, unfolding(rules::specs::AgeNitrate::corrected_age))]
 pub fn corrected_age(age: u64, temperature: Temperature) -> CorrectedAge
     requires { age ≤ 30_000 }
-    ensures { result ≡ corrected_age age temperature }
+    ensures value { result ≡ corrected_age age temperature }
+    ensures most { 100 * result ≤ 142 * age }
 {
     corrected_by(age, decay(temperature))
 }

@@ -45,7 +45,7 @@ impl Basis {
         let accepted = &self.data;
         let inflow = self.seasons.inflow;
         let design = self.seasons.design;
-        let age = sludge_age(design.aerobic_age, fraction);
+        let age = sludge_age(design.aerobic_age, fraction.get());
         let corrected = corrected_by(age.get(), design.decay);
         let carbon = carbon_sludge_in(accepted, corrected);
         let sludge = DailySludge::new(carbon.get() + inflow.phosphorus_sludge.get());

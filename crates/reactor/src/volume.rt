@@ -8,7 +8,8 @@ use rules::{MixedSolids, Process, ReactorSolids, SludgeMass, Steps};
 // E', the solids that the reactor, and nothing else, is sized with, g/m3
 #[tactic(auto, unfolding(rules::specs::ReactorSteps::reactor_solids))]
 pub fn reactor_solids(process: Process, solids: MixedSolids) -> ReactorSolids
-    ensures { result ≡ reactor_solids process solids }
+    ensures value { result ≡ reactor_solids process solids }
+    ensures least { solids ≤ result }
 {
     let solids = solids.get();
     ReactorSolids::new(match process {

@@ -1,7 +1,7 @@
 // The secondary settling tank: what depends on the return ratio and the thickening time alone.
 #![tactic(auto)]
 
-ghost use Rattle.std.specs.Prelude.{◌≡◌, ◌*◌, ◌≤◌, ◌<◌};
+ghost use Rattle.std.specs.Prelude.{◌≡◌, ◌*◌, ◌≤◌, ◌<◌, ℕ};
 ghost use Rattle.rules.specs.Ranges.{Between};
 ghost use Rattle.rules.specs.SettlingSteps.{cube_root, thickening_root, return_share, return_sludge, mixed_solids, diluted_volume, solids_kept, volume_loading, largest_overflow_rate, surface_overflow_rate, settling_surface, settling_depth, settling_volume};
 ghost use Rattle.rules.specs.Rules.{verdict};
@@ -162,20 +162,40 @@ fn settling_volume(surface: SettlingSurface, depth: SettlingDepth) -> SettlingVo
 
 // Needed of a candidate: E of at least 1,000 and V of at most 600.
 #[tactic(auto, unfolding(rules::specs::SettlingSteps::solids_kept))]
-fn solids_kept(solids: MixedSolids, volume: DilutedVolume) -> bool
+fn solids_kept(solids: u64, volume: u64) -> bool
     ensures { result ≡ solids_kept solids volume }
 {
-    1_000 <= solids.get() && volume.get() <= 600
+    1_000 <= solids && volume <= 600
+}
+
+// The verdict on rules 8 to 10 by the figures that they ask of, E, V, A and H, whatever these are. The settling volume is not looked at.
+pub fn figures_verdict(
+    plant: &Plant,
+    solids: u64,
+    sludge_volume: u64,
+    surface: u64,
+    depth: u64,
+) -> Result<(), Refusal>
+    ensures { (volume : ℕ) → result ≡ verdict (tank_rules plant.now
+        (record { solids = solids; sludge_volume = sludge_volume; surface = surface; depth = depth; volume = volume })) }
+{
+    let solids = solids_kept(solids, sludge_volume);
+    let surface = surface <= u64::from(plant.site_surface);
+    let depth = depth <= u64::from(plant.site_depth);
+    verdicts::rule(solids, Refusal::Solids)?;
+    verdicts::rule(surface, Refusal::Surface)?;
+    verdicts::rule(depth, Refusal::Depth)
 }
 
 // The verdict on the tank's rules 8 to 10.
 pub fn tank_verdict(plant: &Plant, settling: &Settling) -> Result<(), Refusal>
     ensures { result ≡ verdict (tank_rules plant.now settling.now) }
 {
-    let solids = solids_kept(settling.solids, settling.sludge_volume);
-    let surface = settling.surface.get() <= u64::from(plant.site_surface);
-    let depth = settling.depth.get() <= u64::from(plant.site_depth);
-    verdicts::rule(solids, Refusal::Solids)?;
-    verdicts::rule(surface, Refusal::Surface)?;
-    verdicts::rule(depth, Refusal::Depth)
+    figures_verdict(
+        plant,
+        settling.solids.get(),
+        settling.sludge_volume.get(),
+        settling.surface.get(),
+        settling.depth.get(),
+    )
 }

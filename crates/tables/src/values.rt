@@ -1,9 +1,9 @@
 // The values of Tables 2, 5 and 7, from the steps of the design, rounded to the printed digits.
-ghost use Rattle.rules.specs.Ranges.{Between, GridFraction};
+ghost use Rattle.rules.specs.Ranges.{Between};
 ghost use Rattle.std.specs.Prelude.{IsTrue, ◌≡◌, ◌+◌, ◌≤◌, ◌↔◌, length};
 ghost use Rattle.tables.specs.Values.{Fits, value_at, nearest, age_tenths, production_hundredths, consumption_hundredths, agreeing_in};
 
-use rules::{GridFraction, Temperature};
+use rules::Temperature;
 
 // The fractions VD/VAT of Table 2, thousandths.
 pub(crate) const FRACTIONS: [u64; 4] = [200, 300, 400, 500];
@@ -21,12 +21,12 @@ fn nearest(a: u64, d: u64) -> u64
 
 // Table 2: sludge age, tenths of a day.
 fn sludge_age(load: u64, temperature: u64, fraction: u64) -> u64
-    requires { (load ≤ 100_000) × Between 10 20 temperature × GridFraction fraction }
+    requires { (load ≤ 100_000) × Between 10 20 temperature × (fraction ≤ 500) }
     ensures { result ≡ age_tenths load temperature fraction }
 {
     let factor = reactor::safety_factor(load);
     let aerobic = reactor::aerobic_age(factor, Temperature::new(temperature));
-    let age = reactor::sludge_age(aerobic, GridFraction::new(fraction));
+    let age = reactor::sludge_age(aerobic, fraction);
     nearest(age.get(), 100)
 }
 

@@ -12,7 +12,7 @@ ghost use Rattle.rules.specs.Ranges.{SheetBounds};
 ghost use Rattle.rules.specs.Lines.{shares_to, shares_positive, split_valid, line_of, line_positive, LineChosen, LineAnswered};
 ghost use Rattle.rules.specs.Works.{works_of, WorksChosen, works_figures};
 ghost use Rattle.accepting.specs.Acceptance.{acceptance_of};
-ghost use Rattle.works.specs.Entries.{answer_at, most_shares, SumsBounds, sums_with, LinesChosen, SheetsBounded};
+ghost use Rattle.works.specs.Entries.{answer_at, works_count, most_shares, SumsBounds, sums_with, LinesChosen, SheetsBounded};
 
 use rules::{Accepted, Answer, MOST_LINES, Plant, Readings, Refusal, Sheet, Split, Sums, Works};
 
@@ -161,7 +161,8 @@ fn accept_split(plant: Plant, readings: Readings, valid: bool) -> Result<Accepte
 }
 
 // The figures of a works in order, which fields do not have: the sums, then those of each line's sheet.
-pub fn figures(works: Works, figures: &mut [u64; WORKS_FIGURES])
+pub fn figures(works: Works, figures: &mut [u64])
+    requires { length figures.old ≡ works_count }
     ensures { figures.new ≡ works_figures works }
 {
     let sums = works.sums;

@@ -8,10 +8,10 @@ use Rattle.accepting.proofs.accept_readings.Goals as goal
 pub returns-in_err-solids : goal.returns-in_err-solids
 returns-in_err-solids c =
     let p = err_from_is_err_and c.from_residual-in_err-solids.result c.from_residual-in_err-solids.ensures.1 in
-    rw (p.1, p.2) (solids_refused c.args.plant.now c.args.readings _ _ _ (rw (c.new-flow.ensures, c.from.ensures) at c.in_ok-bod.ensures) (rw (c.new-flow.ensures, c.from.ensures) at c.in_ok-cod.ensures) (rw (c.new-flow.ensures, c.from.ensures) at c.in_err-solids.ensures))
+    rw (p.1, p.2) (solids_refused c.args.plant.now c.args.readings _ _ _ c.in_ok-bod.ensures c.in_ok-cod.ensures c.in_err-solids.ensures)
 
 pub ratio_refused-requires : goal.ratio_refused-requires
 ratio_refused-requires c = (
-  converted_most c.args.plant.now.flow c.args.plant.now.primary_settling Parameter.Bod c.args.readings.bod _ (rw (c.new-flow.ensures, c.from.ensures) at c.in_ok-bod.ensures),
-  converted_most c.args.plant.now.flow c.args.plant.now.primary_settling Parameter.Cod c.args.readings.cod _ (rw (c.new-flow.ensures, c.from.ensures) at c.in_ok-cod.ensures),
+  converted_most c.args.plant.now.flow c.args.plant.now.primary_settling Parameter.Bod c.args.readings.bod _ c.in_ok-bod.ensures,
+  converted_most c.args.plant.now.flow c.args.plant.now.primary_settling Parameter.Cod c.args.readings.cod _ c.in_ok-cod.ensures,
 )

@@ -10,7 +10,7 @@ returns c =
     let p = c.args.accepted.now.plant in
     let r = c.args.reactor.now in
     let carbon : c.carbon_oxygen_in-carbon.result ≡ carbon_oxygen_in p.way p.flow c.args.accepted.now.concentrations (corrected_age r.age p.aeration_temperature) =
-    rw (c.carbon_oxygen_in-carbon.ensures, c.corrected_age-corrected.ensures, c.get.ensures.0, c.new-temperature.ensures, c.from.ensures) refl in
+    rw (c.carbon_oxygen_in-carbon.ensures, c.corrected_age-corrected.ensures.value, c.get.ensures.0, c.new-temperature.ensures, c.from.ensures) refl in
     let net : c.net_carbon-net.result ≡ c.carbon_oxygen_in-carbon.result - saved_oxygen p.flow (denitrified_by_bod r.denitrified r.removed_by_dose) =
     rw (c.net_carbon-net.ensures, c.denitrified_by_bod-own.ensures) refl in
     let nitrification : c.nitrification_oxygen-nitrification.result ≡ nitrification_oxygen p.flow r.nitrified =

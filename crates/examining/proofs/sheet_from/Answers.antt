@@ -21,5 +21,5 @@ returns c =
       c.get-9.ensures.0,
       c.get-settling_volume.ensures.0,
       c.reactor_volume-volume.ensures.0,
-      c.reactor_solids-solids.ensures,
+      c.reactor_solids-solids.ensures.value,
     ) refl

@@ -64,4 +64,4 @@ unfolding sum_figures
 returns c =
     let sheets = c.args.works.sheets in
     let all = chunks_stored sheet_figures sheets c.loop-i.figures _ (8 + 15 * c.loop-i.i) c.loop-i.i (omega arith) c.loop-i.invariant in
-    whole c.args.works c.args.figures.now c.store.new.list c.loop-i.figures (omega arith) c.told-figures c.store.ensures all
+    whole c.args.works c.args.figures.now c.store.new.list c.loop-i.figures (omega arith) c.requires c.store.ensures all

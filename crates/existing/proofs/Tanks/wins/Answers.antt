@@ -13,4 +13,4 @@ returns c =
     let tanks = c.args.self.now in
     let tank = rw (c.requires.0, c.requires.1) at c.tank-settling.ensures in
     rw (tank_by_verdict tanks.accepted.plant tanks.existing tanks.mass c.args.ratio _ _ tank c.tank_verdict.ensures, c.is_err.ensures.negation, c.if-is_err.false)
-    (rw (← c.get-surface.ensures.0, ← c.get-depth.ensures.0, ← c.reactor_solids-solids.ensures, ← c.reactor_volume-volume.ensures.0) c.sizes_fit.ensures)
+    (rw (← c.get-surface.ensures.0, ← c.get-depth.ensures.0, ← c.reactor_solids-solids.ensures.value, ← c.reactor_volume-volume.ensures.0) c.sizes_fit.ensures)

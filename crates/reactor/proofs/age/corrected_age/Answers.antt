@@ -3,6 +3,6 @@ use Rattle.std.proofs.Common.{refl}
 use Rattle.rules.specs.AgeNitrate.{corrected_age}
 use Rattle.reactor.proofs.age.corrected_age.Goals as goal
 
-pub returns : goal.returns
+pub returns-clause-value : goal.returns-clause-value
 unfolding corrected_age
-returns c = rw (c.corrected_by.ensures, c.decay.ensures) refl
+returns-clause-value c = rw (c.corrected_by.ensures.value, c.decay.ensures) refl

@@ -5,4 +5,4 @@ use Rattle.reactor.proofs.age.sludge_age.Goals as goal
 
 pub returns : goal.returns
 unfolding sludge_age
-returns c = rw (c.new.ensures, c.round_up.ensures, c.get.ensures.0, c.get-2.ensures.0) refl
+returns c = rw (c.new.ensures, c.round_up.ensures, c.get.ensures.0) refl

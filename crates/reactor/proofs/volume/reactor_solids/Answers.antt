@@ -4,9 +4,9 @@ use Rattle.rules.specs.ReactorSteps.{reactor_solids}
 use Rattle.reactor.proofs.volume.reactor_solids.Goals as goal
 use Rattle.reactor.proofs.volume.reactor_solids.Goals.{in-PreAnoxic, in-StepFeed-Two, in-StepFeed-Three}
 
-pub returns : goal.returns
+pub returns-clause-value : goal.returns-clause-value
 unfolding reactor_solids
-returns c =
+returns-clause-value c =
     elim c.match-process.branch [
       | in-PreAnoxic w ↦ search rules
       | in-StepFeed-Two w ↦

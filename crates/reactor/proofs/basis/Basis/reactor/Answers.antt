@@ -1,6 +1,7 @@
 -- `Basis::reactor` meets its contract: with the inflow's figures and the design's a and F from what was reckoned once, the figures are
 -- the definition's chain. Assumes nothing.
 use mathlib.Core.Path.{◌≡◌, refl}
+use native.Mathlib.Omega.{arith}
 use Rattle.rules.specs.AgeNitrate.{corrected_age, removes}
 use Rattle.rules.specs.ReactorSteps.{sludge_production, reactor_by, reactor_dosed, reactor_of}
 use Rattle.reactor.specs.Seasons.{inflow_of}
@@ -12,7 +13,7 @@ design : (b : Basis) → DesignIn b.data.plant b.data.concentrations b.seasons
 design b = design_in b.data.plant b.data.concentrations b.data.plant_ranges b.seasons b.data.concentration_ranges b.seasons_at.value
 
 pub sludge_age-age-requires : goal.sludge_age-age-requires
-sludge_age-age-requires c = (design c.args.self.now).age_most
+sludge_age-age-requires c = ((design c.args.self.now).age_most, omega (arith, c.get.ensures.1.most))
 
 pub returns : goal.returns
 unfolding reactor_of reactor_dosed reactor_by sludge_production corrected_age inflow_of
@@ -26,13 +27,14 @@ returns c =
     rw (
       c.sludge_mass.ensures,
       c.new-sludge.ensures,
-      c.get-2.ensures.0,
       c.get-3.ensures.0,
+      c.get-4.ensures.0,
       c.carbon_sludge_in-carbon.ensures,
       removes_at,
-      c.corrected_by-corrected.ensures,
-      c.get.ensures.0,
+      c.corrected_by-corrected.ensures.value,
+      c.get-2.ensures.0,
       c.sludge_age-age.ensures,
+      c.get.ensures.0,
       own.age,
       own.decay,
       own.temperature,
