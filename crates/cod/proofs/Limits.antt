@@ -61,6 +61,15 @@ unfolding inert_of_biomass
 decayed_most upward degradable u hd hu =
     rounded_most upward (34 * biomass_formed upward degradable u * u) 1_000_000 658_300 (omega arith) (omega (arith, decayed_product upward degradable u hd hu))
 
+-- the same of any biomass up to the largest, at a corrected age of up to 28,400
+pub biomass_inert_product : (biomass u : ℕ) → biomass ≤ 3_283_000 → u ≤ 28_400 → 34 * biomass * u ≤ 3_170_065_000_000
+biomass_inert_product biomass u h k = omega (arith, mul-le-mul h k)
+
+pub biomass_inert_most : (upward : Bool) (biomass u : ℕ) → biomass ≤ 3_283_000 → u ≤ 28_400 → inert_of_biomass upward biomass u ≤ 3_170_065
+unfolding inert_of_biomass
+biomass_inert_most upward biomass u h k =
+    rounded_most upward (34 * biomass * u) 1_000_000 3_170_065 (omega arith) (omega (arith, biomass_inert_product biomass u h k))
+
 pub sludge_as_cod_most :
     (upward : Bool) (inert degradable u : ℕ)
     → inert ≤ 710_500

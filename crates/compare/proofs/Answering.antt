@@ -31,7 +31,7 @@ unfolding malformed
 answering_within keeps put page o (Err fault) each e = rw e (omega arith)
 answering_within keeps put page o (Ok x) each (a, c, e) = rw e (each a)
 
-call_within :
+pub call_within :
     (operation : Operation) (request page : List ℕ) (o : Outcome) → Call operation request page o → o.written ≤ length page
 unfolding examined examined_and_priced
 call_within Operation.Examine request page o e = rw e (data_within _ page _ (λ x. put_within _ _ page))

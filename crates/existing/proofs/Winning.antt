@@ -12,7 +12,7 @@ use Rattle.std.specs.Prelude.{Ok, Err, Option, Some, None, is_ok}
 use Rattle.rules.specs.Limits.{least_fraction, most_fraction, least_time, most_time}
 use Rattle.rules.specs.Rules.{Rule, rule, all_kept, verdict, after}
 use Rattle.rules.specs.PlantData.{within}
-use Rattle.rules.specs.Ranges.{GridFraction, GridTime, PlantRanges, ConcentrationRanges}
+use Rattle.rules.specs.Ranges.{GridFraction, GridTime, Index, PlantRanges, ConcentrationRanges}
 use Rattle.rules.specs.Accepting.{values_of, data_rules, accept_by, accept}
 use Rattle.rules.specs.ReactorSteps.{reactor_of, reactor_solids, reactor_volume}
 use Rattle.rules.specs.SettlingSteps.{settling_of}
@@ -114,6 +114,28 @@ pub fraction_by_verdict :
 fraction_by_verdict p x f r v hr hv = rw (← hr, hv, verdict_kept (fraction_rules p x r))
 
 -- ---- an index
+
+-- a plant in its ranges is so at every index of a sludge that does not bulk
+pub ranges_at_index : (index : ℕ) (p : Plant) → PlantRanges p → Index index → PlantRanges (with_index index p)
+unfolding with_index
+ranges_at_index index p r i =
+    record {
+      load = r.load;
+      flow = r.flow;
+      wet = r.wet;
+      design = r.design;
+      aeration = r.aeration;
+      index = i;
+      nitrate = r.nitrate;
+      phosphorus = r.phosphorus;
+      carbon_peak = r.carbon_peak;
+      nitrogen_peak = r.nitrogen_peak;
+      saturation = r.saturation;
+      surface = r.surface;
+      depth = r.depth;
+      dose = r.dose;
+      consent = r.consent;
+    }
 
 -- the fraction and the thickening time that keep 6
 pub operated_ranges : (e : Existing) → T (operated_on_grid e) → GridFraction e.fraction × GridTime e.thickening

@@ -15,15 +15,15 @@ const MOST_BOD: u64 = 2_000_000;
 
 // The last 14 days of a pass over the log, and what it has found.
 #[derive(Clone, Copy)]
-struct Window {
+pub struct Window {
     // the days' loads: day d's at (d - 1) % 14, so that a day costs one step, and 0 where there was no day yet
-    loads: [u64; 14],
+    pub loads: [u64; 14],
     // their sum
-    sum: u64,
+    pub sum: u64,
     // how many days were passed
-    days: u64,
+    pub days: u64,
     // the highest load of the windows passed
-    highest: TwoWeekLoad,
+    pub highest: TwoWeekLoad,
 }
 
 impl Window {

@@ -1,6 +1,6 @@
 -- The price band by band is the price by single cubic metres, for every tariff of at least one band, its limits rising or not, and every
 -- volume. Assumes nothing.
-use mathlib.Core.Path.{◌≡◌, refl, ap, sym, ◌∙◌}
+use mathlib.Core.Path.{◌≡◌, refl, ap, sym, subst, ◌∙◌}
 use mathlib.Core.Bool.{Bool, true, false}
 use Prim.Native.Nat.{ℕ, zero, suc, ◌+◌, ◌-◌, ◌*◌, ◌≤◌, ◌<◌, min}
 use native.Mathlib.Numerals.{add-one}
@@ -26,7 +26,7 @@ sum_run a (suc m) c g e =
 
 -- After k bands of a tariff: so many metres of the volume are charged, they cost what they cost one by one, and a metre that is left is
 -- charged from band k on.
-record After (t : Tariff) (volume k : ℕ) : Type 0 where
+pub record After (t : Tariff) (volume k : ℕ) : Type 0 where
   pub within : charged_by t volume k ≤ volume
   pub cost : cost_by t volume k ≡ sum_from 1 (charged_by t volume k) (metre_price t)
   pub left : (later n : ℕ) → t.count ≡ k + later + 1 → charged_by t volume k < n → n ≤ volume → metre_price t n ≡ charged_from t k later n
@@ -89,7 +89,7 @@ one_band t volume k below before =
         before.left (suc later) n (omega (arith, c)) (omega (arith, low)) high ∙ rw (← add-one k) (charged_later t k later n past)
 
 -- after any number of bands
-after_bands : (t : Tariff) (volume k : ℕ) → k ≤ t.count → After t volume k
+pub after_bands : (t : Tariff) (volume k : ℕ) → k ≤ t.count → After t volume k
 after_bands t volume zero h = at_start t volume
 after_bands t volume (suc k) h = one_band t volume k (omega (arith, h)) (after_bands t volume k (omega (arith, h)))
 
@@ -108,12 +108,17 @@ by_bands t volume h = go (t.count - 1) (omega (arith, h))
     go : (k : ℕ) → t.count ≡ suc k → cost_by t volume t.count ≡ sum_from 1 volume (metre_price t)
     go k c = ap (cost_by t volume) c ∙ ((after_bands t volume (suc k) (omega (arith, c))).cost ∙ ap (λ (n : ℕ). sum_from 1 n (metre_price t)) (all_charged t volume k c))
 
--- after k bands of a valid tariff the cost is at most that of the whole volume at the largest price
+-- after k bands of a valid tariff the cost is at most the metres charged at the largest price
+pub cost_most : (t : Tariff) (volume k : ℕ) → ValidTariff t → k ≤ t.count → cost_by t volume k ≤ charged_by t volume k * most_price
+cost_most t volume k v h =
+    subst (λ (n : ℕ). n ≤ charged_by t volume k * most_price) (sym (after_bands t volume k h).cost)
+    (sum_most 1 (charged_by t volume k) most_price (metre_price t) (λ n. metre_most t n v))
+
+-- and at most that of the whole volume
 pub passed : (t : Tariff) (volume k : ℕ) → ValidTariff t → k ≤ t.count → (charged_by t volume k ≤ volume) × (cost_by t volume k ≤ volume * most_price)
 passed t volume k v h =
     let after = after_bands t volume k h in
-    let most = sum_most 1 (charged_by t volume k) most_price (metre_price t) (λ n. metre_most t n v) in
-    (after.within, omega (arith, after.within, after.cost, most))
+    (after.within, omega (arith, after.within, cost_most t volume k v h))
 
 -- and a whole volume
 pub volume_most : (t : Tariff) (volume : ℕ) → ValidTariff t → volume_price t volume ≤ volume * most_price

@@ -1,11 +1,11 @@
 -- The seasons of accepted data: the inflow and the design the plant's, each entry its term's, and what is asked of an entry asked of
 -- the term. Assumes nothing.
 use mathlib.Core.Path.{◌≡◌, refl, sym, ap, subst, ◌∙◌}
-use mathlib.Core.Bool.{Bool, true, false}
+use mathlib.Core.Bool.{Bool, true, false, cond, ◌&&◌, ◌||◌}
 use mathlib.Core.List.{List, [], ◌∷◌}
 use Prim.Native.Nat.{ℕ, zero, suc, ◌+◌, ◌≤◌, ◌<◌}
 use borrow.Author.Tests.{lt-leb, le-leb}
-use lib.Dec.{T}
+use lib.Dec.{T, leb}
 use lib.ListN.{length, get_or, take}
 use native.Mathlib.Omega.{arith}
 use Rattle.rules.specs.Limits.{most_terms}
@@ -24,7 +24,7 @@ use Rattle.std.specs.Bool.{MatchBool}
 use Rattle.std.specs.List.{AllWithin, HoldsAt}
 use Rattle.std.proofs.lemmas.List.{get_or-take, length-take-le}
 use Rattle.rules.proofs.SumLaws.{values_length, values_at}
-use Rattle.rules.proofs.EveryTerm.{every_at, ValidTerms, valid_terms}
+use Rattle.rules.proofs.EveryTerm.{every_at, entry_passes, every_entry, ValidTerms, valid_terms}
 use Rattle.reactor.specs.Seasons.{season_with, season_of, no_season, season_at, inflow_of, seasons_of, TermSeasons, season_nitrifies, season_fraction, season_removes, season_covered, season_explained}
 use Rattle.reactor.specs.declared.Season.{Season}
 use Rattle.reactor.specs.declared.Seasons.{Seasons}
@@ -127,6 +127,50 @@ module _
         → r ≡ every test (terms_of p.consent)
     tested true h = all_pass (λ k below. h k no_season (omega arith) below)
     tested false h = one_fails h.0 h.1 (h.2 no_season)
+
+-- every season that is looked at passes a test
+abbrev pub every_season : (Season → Bool) → Seasons → Bool
+every_season test s =
+    let at : ℕ → Bool = λ i. entry_passes s.count i (test (get_or s.terms i no_season)) in
+    at 0 && (at 1 && (at 2 && at 3))
+
+-- Whatever the test, of a plant's seasons it is that test of the terms. A consent has four entries.
+pub every_season_lem :
+    (p : Plant) (x : Concentrations) (test : Season → Bool)
+    → length p.consent.terms ≡ most_terms
+    → every_season test (seasons_of p x) ≡ every (λ term. test (season_of (safety_factor p.load) term)) (terms_of p.consent)
+unfolding seasons_of season_at values_from
+every_season_lem p x test four = go p.consent.terms four
+  where
+    factor : ℕ
+    factor = safety_factor p.load
+
+    -- past the count nothing is looked at, before it the season is the term's
+    entry :
+        (i : ℕ) (term : Term)
+        → entry_passes p.consent.count i (test (cond (leb p.consent.count i) no_season (season_of factor term)))
+        ≡ entry_passes p.consent.count i (test (season_of factor term))
+    entry i term = at (leb p.consent.count i)
+      where
+        at : (b : Bool) → (b || test (cond b no_season (season_of factor term))) ≡ (b || test (season_of factor term))
+        at true = refl
+        at false = refl
+
+    go :
+        (l : List Term)
+        → length l ≡ most_terms
+        → (entry_passes p.consent.count 0 (test (cond (leb p.consent.count 0) no_season (season_of factor (get_or l 0 no_term))))
+        && (entry_passes p.consent.count 1 (test (cond (leb p.consent.count 1) no_season (season_of factor (get_or l 1 no_term))))
+        && (entry_passes p.consent.count 2 (test (cond (leb p.consent.count 2) no_season (season_of factor (get_or l 2 no_term))))
+        && entry_passes p.consent.count 3 (test (cond (leb p.consent.count 3) no_season (season_of factor (get_or l 3 no_term)))))))
+        ≡ every (λ term. test (season_of factor term)) (take p.consent.count l)
+    go (a ∷ b ∷ c ∷ d ∷ []) e =
+        rw (entry 0 a, entry 1 b, entry 2 c, entry 3 d) (sym (every_entry (λ term. test (season_of factor term)) p.consent.count a b c d))
+    go [] e = absurd (omega (arith, e))
+    go (a ∷ []) e = absurd (omega (arith, e))
+    go (a ∷ b ∷ []) e = absurd (omega (arith, e))
+    go (a ∷ b ∷ c ∷ []) e = absurd (omega (arith, e))
+    go (a ∷ b ∷ c ∷ d ∷ more ∷ l) e = absurd (omega (arith, e))
 
 module _ (p : Plant) (x : Concentrations) (reactor : Reactor) (s : Season) (term : Term) (e : s ≡ season_of (safety_factor p.load) term) where
   -- 15

@@ -1,10 +1,11 @@
 -- Tests of every term of a consent: what they say of each term, and how a weaker test passes where a stronger one did.
 -- Assumes nothing.
-use mathlib.Core.Path.{◌≡◌, ap}
-use mathlib.Core.Bool.{Bool, true, ◌&&◌}
+use mathlib.Core.Path.{◌≡◌, refl, ap}
+use mathlib.Core.Bool.{Bool, true, false, ◌&&◌, ◌||◌, and-true}
 use mathlib.Core.List.{List, [], ◌∷◌, ◌++◌}
 use Prim.Native.Nat.{ℕ, zero, suc, ◌<◌, ◌≤◌}
 use native.Mathlib.Omega.{arith}
+use borrow.Author.Tests.{lt-leb}
 use lib.Dec.{T, leb, leb→le}
 use lib.ListN.{take, length, get_or}
 use lib.Ieee.Fits.{and_i, and_l, and_r}
@@ -25,6 +26,29 @@ every_weaker f g (term ∷ later) h t =
 pub every_inserted : (f : Term → Bool) (a : List Term) (term : Term) (b : List Term) → f term ≡ true → every f (a ++ (term ∷ b)) ≡ every f (a ++ b)
 every_inserted f [] term b e = rw e
 every_inserted f (t ∷ a) term b e = ap (λ (r : Bool). f t && r) (every_inserted f a term b e)
+
+-- entry i of a consent with so many terms passes, or is not looked at
+abbrev pub entry_passes : ℕ → ℕ → Bool → Bool
+entry_passes count i test = leb count i || test
+
+-- a test of every term is a test of the four entries
+pub every_entry :
+    (f : Term → Bool) (count : ℕ) (a b c d : Term)
+    → every f (take count (a ∷ b ∷ c ∷ d ∷ []))
+    ≡ (entry_passes count 0 (f a) && (entry_passes count 1 (f b) && (entry_passes count 2 (f c) && entry_passes count 3 (f d))))
+every_entry f zero a b c d = refl
+every_entry f (suc zero) a b c d = refl
+every_entry f (suc (suc zero)) a b c d = refl
+every_entry f (suc (suc (suc zero))) a b c d = refl
+every_entry f (suc (suc (suc (suc n)))) a b c d =
+    rw (within n 0 (omega arith), within n 1 (omega arith), within n 2 (omega arith), within n 3 (omega arith), none_left n, and-true (f d))
+  where
+    within : (n i : ℕ) → i < suc (suc (suc (suc n))) → leb (suc (suc (suc (suc n)))) i ≡ false
+    within n i l = lt-leb (suc (suc (suc (suc n)))) i l
+
+    none_left : (n : ℕ) → every f (take n []) ≡ true
+    none_left zero = refl
+    none_left (suc n) = refl
 
 -- a test that every term of a list passes is passed by each of its first n
 pub every_at : (f : Term → Bool) (l : List Term) (n i : ℕ) → T (every f (take n l)) → i < n → i < length l → T (f (get_or l i no_term))

@@ -110,6 +110,38 @@ thickening_product {rate} {ratio} solids bottom q r h half =
     let sum : 100 + ratio ≤ 200 = omega arith in
     omega (arith, mul-le-mul (mul-le-mul (mul-le-mul_left solids q.most) sum) h.most)
 
+-- the products and the parts of the depth
+module _ {rate ratio : ℕ} (q : Between 720 2_000 rate) (r : Between 30 100 ratio) where
+  sum : 100 + ratio ≤ 200
+  sum = omega arith
+
+  -- q · (100 + r)
+  pub flow_product : rate * (100 + ratio) ≤ 400_000
+  flow_product = omega (arith, mul-le-mul q.most sum)
+
+  pub separation_most : {volume : ℕ} → Between 1 679 volume → up (5 * rate * (100 + ratio)) (1000 - volume) ≤ 6_300
+  separation_most {volume} v = (up_le (5 * rate * (100 + ratio)) (1000 - volume) 6_300 (omega arith)).1 (omega (arith, flow_product))
+
+  -- q · V
+  pub loading_product : {volume : ℕ} → Between 1 679 volume → rate * volume ≤ 1_358_000
+  loading_product v = omega (arith, mul-le-mul q.most v.most)
+
+  -- what is rounded for the storage, x being q · V rounded
+  pub storage_product : (x : ℕ) → x ≤ 1_358 → 9 * x * (100 + ratio) ≤ 2_444_400
+  storage_product x h = omega (arith, mul-le-mul h sum)
+
+  pub storage_most : {volume : ℕ} → Between 1 679 volume → up (9 * up (rate * volume) 1000 * (100 + ratio)) 1000 ≤ 2_445
+  storage_most {volume} v = omega (arith, storage_product (up (rate * volume) 1000) (omega (arith, loading_product v)))
+
+  pub thickening_most :
+      {thickening bottom : ℕ} (solids : ℕ) →
+      Between 20 25 thickening →
+      Between least_bottom most_bottom bottom →
+      2 * solids ≤ bottom →
+      up (solids * rate * (100 + ratio) * thickening) (1000 * bottom) ≤ 5_000
+  thickening_most {thickening} {bottom} solids h b half =
+      (up_le (solids * rate * (100 + ratio) * thickening) (1000 * bottom) 5_000 (omega arith)).1 (thickening_product solids bottom q r h half)
+
 -- the depth before it is raised, by the limits of its parts
 pub depth_sum :
     {rate ratio volume thickening bottom separation loading storage thickened : ℕ} (solids : ℕ) →
@@ -125,13 +157,10 @@ pub depth_sum :
     thickened ≡ up (solids * rate * (100 + ratio) * thickening) (1000 * bottom) →
     500 + separation + storage + thickened ≤ 20_000
 depth_sum {rate} {ratio} {volume} {thickening} {bottom} {separation} {loading} {storage} {thickened} solids q r v h b half es el eg et =
-    let sum : 100 + ratio ≤ 200 = omega arith in
-    let separated : separation ≤ 6_300 =
-    rw es ((up_le (5 * rate * (100 + ratio)) (1000 - volume) 6_300 (omega arith)).1 (omega (arith, mul-le-mul q.most sum))) in
-    let loaded : loading ≤ 1_358 = omega (arith, mul-le-mul q.most v.most) in
-    let thick : thickened ≤ 5_000 =
-    rw et ((up_le (solids * rate * (100 + ratio) * thickening) (1000 * bottom) 5_000 (omega arith)).1 (thickening_product solids bottom q r h half)) in
-    omega (arith, mul-le-mul loaded sum)
+    let separated : separation ≤ 6_300 = rw es (separation_most q r v) in
+    let stored : storage ≤ 2_445 = rw (eg, el) (storage_most q r v) in
+    let thick : thickened ≤ 5_000 = rw et (thickening_most q r solids h b half) in
+    omega arith
 
 pub depth_limits :
     {rate ratio volume thickening bottom : ℕ} (solids : ℕ) →
