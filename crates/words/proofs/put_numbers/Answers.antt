@@ -1,8 +1,11 @@
 -- `put_numbers` meets its contract: each turn stores one of the numbers that are left, and at the end none is. Assumes nothing.
-use Rattle.std.proofs.Common.{◌∙◌, w64, arith}
+use Rattle.std.proofs.Common.{refl, ◌∙◌, w64, arith}
 use Rattle.words.specs.Bytes.{low_bytes}
 use Rattle.words.proofs.Stores.{number_stored, chunks_stored}
 use Rattle.words.proofs.put_numbers.Goals as goal
+
+pub loop-i-init : goal.loop-i-init
+loop-i-init c = refl
 
 pub loop-i-preserved : goal.loop-i-preserved
 loop-i-preserved c =
