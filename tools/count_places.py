@@ -13,7 +13,7 @@ from collections import defaultdict
 ERRORS = {"Refusal", "Fault"}
 REFUSED = "(?:Refused|Malformed|Broken)"
 # Read and found right: figures that hold whatever the verdict beside them says, and a match on kinds that hold different data.
-RIGHT = {"Explained", "Stages", "convert"}
+RIGHT = {"Explained", "Stages", "convert_at_flow"}
 NUMBERS = {"u32", "u64", "usize"}
 KEYWORDS = "if else match for in while loop let mut return break continue as true false".split()
 # Bodies of max, min, saturating_sub, div_ceil, contains, from_le_bytes, copy_from_slice, to_le_bytes, is_finite, u64::from.

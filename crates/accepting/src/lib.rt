@@ -13,7 +13,8 @@ ghost use Rattle.accepting.specs.Conversion.{refusal_of, judge_result, convert, 
 ghost use Rattle.accepting.specs.Acceptance.{acceptance_of};
 
 use rules::{
-    Accepted, Concentrations, Parameter, Plant, PrimarySettling, Reading, Readings, Refusal, Way,
+    Accepted, Concentrations, DailyFlow, Parameter, Plant, PrimarySettling, Reading, Readings,
+    Refusal, Way,
 };
 
 // Why an f32 has no thousandths: it is no number, or at or above the cut-off 2^23.
@@ -183,8 +184,8 @@ fn convert_heads(
     judge_result(parameter, n)
 }
 
-// One reading, at the plant's daily flow and primary settling: 2, then 3, else its thousandths.
-pub fn convert(
+// One reading, at a flow above 0, also one above a plant's largest, and a primary settling: 2, then 3, else its thousandths.
+pub fn convert_at_flow(
     flow: u32,
     settling: PrimarySettling,
     parameter: Parameter,
@@ -198,6 +199,18 @@ pub fn convert(
         Reading::Below(x) => judge_result(parameter, to_thousandths(x, 2)?),
         Reading::Heads(n) => convert_heads(flow, settling, parameter, n),
     }
+}
+
+// One reading, at the plant's daily flow and primary settling: 2, then 3, else its thousandths.
+pub fn convert(
+    flow: DailyFlow,
+    settling: PrimarySettling,
+    parameter: Parameter,
+    reading: Reading,
+) -> Result<u64, Refusal>
+    ensures { result ≡ convert flow settling parameter reading }
+{
+    convert_at_flow(flow.get() as u32, settling, parameter, reading)
 }
 
 // 4: the COD is too high beside the BOD, in the way by BOD.
@@ -220,11 +233,11 @@ fn accept_readings(plant: &Plant, readings: Readings) -> Result<Concentrations, 
 {
     let flow = plant.flow;
     let settling = plant.primary_settling;
-    let bod = convert(flow, settling, Parameter::Bod, readings.bod)?;
-    let cod = convert(flow, settling, Parameter::Cod, readings.cod)?;
-    let solids = convert(flow, settling, Parameter::Solids, readings.solids)?;
-    let nitrogen = convert(flow, settling, Parameter::Nitrogen, readings.nitrogen)?;
-    let phosphorus = convert(flow, settling, Parameter::Phosphorus, readings.phosphorus)?;
+    let bod = convert_at_flow(flow, settling, Parameter::Bod, readings.bod)?;
+    let cod = convert_at_flow(flow, settling, Parameter::Cod, readings.cod)?;
+    let solids = convert_at_flow(flow, settling, Parameter::Solids, readings.solids)?;
+    let nitrogen = convert_at_flow(flow, settling, Parameter::Nitrogen, readings.nitrogen)?;
+    let phosphorus = convert_at_flow(flow, settling, Parameter::Phosphorus, readings.phosphorus)?;
     if ratio_refused(plant.way, bod, cod) {
         return Err(Refusal::CodRatio);
     }
@@ -256,4 +269,23 @@ pub fn accept(plant: Plant, readings: Readings) -> Result<Accepted, Refusal>
         plant,
         concentrations,
     })
+}
+
+#[cfg(test)]
+mod tests {
+    use super::*;
+
+    // 15,000 heads, BOD: 60 g of each a day, or 40 behind a long primary settling.
+    #[test]
+    fn converted(rt: HostRuntime) {
+        for (flow, settling, want) in [
+            (3_000, PrimarySettling::None, Ok(300_000)),
+            (3_000, PrimarySettling::Long, Ok(200_000)),
+            (200_000, PrimarySettling::None, Err(Refusal::ReadingRange)),
+        ] {
+            let flow = DailyFlow::new(flow);
+            let got = convert(flow, settling, Parameter::Bod, Reading::Heads(15_000));
+            assert_eq!(rt; got, want);
+        }
+    }
 }

@@ -6,7 +6,7 @@ ghost use Rattle.rules.specs.Ranges.{Between};
 ghost use Rattle.rules.specs.Limits.{least_temperature, most_fraction};
 
 use rounding::round_up;
-use rules::{CorrectedAge, DecayFactor, SafetyFactor, SludgeAge, Temperature};
+use rules::{CorrectedAge, DecayFactor, GridFraction, SafetyFactor, SludgeAge, Temperature};
 
 // 1,000,000 multiplied by multiplier / divisor once for each degree, down at each.
 #[tactic(auto, using(crate::proofs::AgeLimits::per_degree_none, crate::proofs::AgeLimits::per_degree_more, crate::proofs::AgeLimits::per_degree_fits))]
@@ -66,13 +66,21 @@ pub fn aerobic_age(factor: SafetyFactor, temperature: Temperature) -> SludgeAge
     SludgeAge::new(round_up(factor.get() * 34 * growth(temperature), 1_000_000))
 }
 
-// t, sludge age, thousandths of a day; the fraction may also be below the grid's.
+// t, sludge age, thousandths of a day, at any fraction up to the grid's largest: it may also be below the grid's.
 #[tactic(auto, unfolding(rules::specs::AgeNitrate::sludge_age))]
-pub fn sludge_age(aerobic: SludgeAge, fraction: u64) -> SludgeAge
+pub fn sludge_age_at_fraction(aerobic: SludgeAge, fraction: u64) -> SludgeAge
     requires { (aerobic ≤ 10_000) × (fraction ≤ most_fraction) }
     ensures { result ≡ sludge_age aerobic fraction }
 {
     SludgeAge::new(round_up(1000 * aerobic.get(), 1000 - fraction))
+}
+
+// t, sludge age, thousandths of a day, at a fraction of the grid.
+pub fn sludge_age(aerobic: SludgeAge, fraction: GridFraction) -> SludgeAge
+    requires { aerobic ≤ 10_000 }
+    ensures { result ≡ sludge_age aerobic fraction }
+{
+    sludge_age_at_fraction(aerobic, fraction.get())
 }
 
 // U, sludge age corrected by the decay at a temperature, thousandths of a day: at most 1.42 times the age.
@@ -92,4 +100,19 @@ pub fn corrected_age(age: u64, temperature: Temperature) -> CorrectedAge
     ensures most { 100 * result ≤ 142 * age }
 {
     corrected_by(age, decay(temperature))
+}
+
+#[cfg(test)]
+mod tests {
+    use super::*;
+
+    // 8.213 d of aerobic age are four fifths and a half of the whole, rounded up.
+    #[test]
+    fn of_the_grid(rt: HostRuntime) {
+        let aerobic = SludgeAge::new(8_213);
+        let least = sludge_age(aerobic, GridFraction::new(200));
+        let most = sludge_age(aerobic, GridFraction::new(500));
+        assert_eq!(rt; least.get(), 10_267);
+        assert_eq!(rt; most.get(), 16_426);
+    }
 }

@@ -10,7 +10,7 @@ ghost use Rattle.rules.specs.Limits.{most_terms};
 ghost use Rattle.rules.specs.Explaining.{term_at};
 ghost use Rattle.reactor.specs.Seasons.{SeasonsAt, TermSeasons};
 
-use crate::age::{corrected_by, sludge_age};
+use crate::age::{corrected_by, sludge_age_at_fraction};
 use crate::nitrate::{covered, removes};
 use crate::sludge::{carbon_sludge_in, sludge_mass};
 use crate::{Season, Seasons};
@@ -45,7 +45,7 @@ impl Basis {
         let accepted = &self.data;
         let inflow = self.seasons.inflow;
         let design = self.seasons.design;
-        let age = sludge_age(design.aerobic_age, fraction.get());
+        let age = sludge_age_at_fraction(design.aerobic_age, fraction.get());
         let corrected = corrected_by(age.get(), design.decay);
         let carbon = carbon_sludge_in(accepted, corrected);
         let sludge = DailySludge::new(carbon.get() + inflow.phosphorus_sludge.get());

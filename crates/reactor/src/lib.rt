@@ -9,7 +9,9 @@ mod sludge;
 mod terms;
 mod volume;
 
-pub use age::{aerobic_age, corrected_age, decay, safety_factor, sludge_age};
+pub use age::{
+    aerobic_age, corrected_age, decay, safety_factor, sludge_age, sludge_age_at_fraction,
+};
 pub use basis::Basis;
 pub use nitrate::capacity_uptake;
 use rules::{

@@ -26,7 +26,7 @@ fn sludge_age(load: u64, temperature: u64, fraction: u64) -> u64
 {
     let factor = reactor::safety_factor(load);
     let aerobic = reactor::aerobic_age(factor, Temperature::new(temperature));
-    let age = reactor::sludge_age(aerobic, fraction);
+    let age = reactor::sludge_age_at_fraction(aerobic, fraction);
     nearest(age.get(), 100)
 }
 

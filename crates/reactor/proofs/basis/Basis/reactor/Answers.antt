@@ -12,8 +12,8 @@ use Rattle.reactor.proofs.basis.Basis.reactor.Goals as goal
 design : (b : Basis) → DesignIn b.data.plant b.data.concentrations b.seasons
 design b = design_in b.data.plant b.data.concentrations b.data.plant_ranges b.seasons b.data.concentration_ranges b.seasons_at.value
 
-pub sludge_age-age-requires : goal.sludge_age-age-requires
-sludge_age-age-requires c = ((design c.args.self.now).age_most, omega (arith, c.get.ensures.1.most))
+pub sludge_age_at_fraction-age-requires : goal.sludge_age_at_fraction-age-requires
+sludge_age_at_fraction-age-requires c = ((design c.args.self.now).age_most, omega (arith, c.get.ensures.1.most))
 
 pub returns : goal.returns
 unfolding reactor_of reactor_dosed reactor_by sludge_production corrected_age inflow_of
@@ -33,7 +33,7 @@ returns c =
       removes_at,
       c.corrected_by-corrected.ensures.value,
       c.get-2.ensures.0,
-      c.sludge_age-age.ensures,
+      c.sludge_age_at_fraction-age.ensures,
       c.get.ensures.0,
       own.age,
       own.decay,
